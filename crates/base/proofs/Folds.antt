@@ -3,12 +3,13 @@ use mathlib.Core.Path.{_≡_, refl, sym, ap, _∙_}
 use mathlib.Core.Logic.{⊎-elim}
 use mathlib.Core.Bool.{Bool, true, false, _&&_}
 use mathlib.Core.List.{List, [], _∷_, _++_}
-use Prim.Native.Nat.{ℕ, zero, suc, _+_, _≤_, _<_}
+use Prim.Native.Nat.{ℕ, zero, suc, _+_, _*_, _≤_, _<_}
 use native.Mathlib.Omega.{arith}
 use lib.ListN.{length, getD, set, replicate}
+use native.Mathlib.Numerals.{add-one}
 use lib.Seq.{getD-set-same, getD-set-other}
-use Rattle.base.specs.Folds.{one, implies, below, countBelow, sum, every, All, removed}
-use Rattle.base.proofs.Tests.{either, differs, same-or-not, and-l, and-r, and-of}
+use Rattle.base.specs.Folds.{one, implies, below, countBelow, sumBelow, sum, every, All, removed}
+use Rattle.base.proofs.Tests.{either, differs, same-or-not, same-test, and-l, and-r, and-of}
 
 -- ---- every number below a bound
 
@@ -27,6 +28,31 @@ module _ (p : ℕ → Bool) where
 
   pub below-fails : (k i : ℕ) → i < k → p i ≡ false → below k p ≡ false
   below-fails k i l e = ⊎-elim (λ h. differs (sym (below-at k h i l) ∙ e)) (λ h. h) (either (below k p))
+
+  pub below-none : below 0 p ≡ true
+  unfolding below
+  below-none = refl
+
+  -- one number more, as a loop goes
+  pub below-next : (k : ℕ) → below (k + 1) p ≡ (p k && below k p)
+  unfolding below
+  below-next k = rw add-one
+
+-- the first number apart
+pub below-first : (p : ℕ → Bool) (k : ℕ) → below (suc k) p ≡ (p 0 && below k (λ i. p (suc i)))
+below-first p k =
+    same-test (below (suc k) p) (p 0 && below k (λ i. p (suc i)))
+    (λ h. and-of (p 0) (below k (λ i. p (suc i))) (below-at p (suc k) h 0 (omega arith)) (below-of (λ i. p (suc i)) k (λ i l. below-at p (suc k) h (suc i) (omega arith))))
+    (λ h. below-of p (suc k) (λ i l. from (and-l (p 0) (below k (λ j. p (suc j))) h) (and-r (p 0) (below k (λ j. p (suc j))) h) i l))
+  where
+    from : p 0 ≡ true → below k (λ j. p (suc j)) ≡ true → (i : ℕ) → i < suc k → p i ≡ true
+    from a b zero l = a
+    from a b (suc i) l = below-at (λ j. p (suc j)) k b i (omega arith)
+
+pub below-same : (p q : ℕ → Bool) (k : ℕ) → ((i : ℕ) → i < k → p i ≡ q i) → below k p ≡ below k q
+unfolding below
+below-same p q zero f = refl
+below-same p q (suc k) f = λ i. f k (omega arith) i && below-same p q k (λ j l. f j (omega arith)) i
 
 -- ---- how many numbers below a bound
 
@@ -168,3 +194,36 @@ module _ {A : Type 0} where
   length-removed [] i = omega arith
   length-removed (x ∷ xs) zero = omega arith
   length-removed (x ∷ xs) (suc i) = omega (arith, length-removed xs i)
+
+-- ---- a list's folds by the places of its elements, as loops go
+
+module _ {A : Type 0} (d : A) where
+  pub every-below : (p : A → Bool) (l : List A) → every p l ≡ below (length l) (λ i. p (getD l i d))
+  every-below p l =
+      same-test (every p l) (below (length l) (λ i. p (getD l i d)))
+      (λ h. below-of (λ i. p (getD l i d)) (length l) (λ i k. all-at (λ x. p x ≡ true) l (all-every (λ x. p x ≡ true) p l (λ x e. e) h) i d k))
+      (λ h. every-all (λ x. p x ≡ true) p l (λ x e. e) (all-of (λ x. p x ≡ true) d l (below-at (λ i. p (getD l i d)) (length l) h)))
+
+pub sum-next : (f : ℕ → ℕ) (k : ℕ) → sumBelow (k + 1) f ≡ f k + sumBelow k f
+unfolding sumBelow
+sum-next f k = rw add-one
+
+pub sum-same : (f g : ℕ → ℕ) (k : ℕ) → ((i : ℕ) → i < k → f i ≡ g i) → sumBelow k f ≡ sumBelow k g
+unfolding sumBelow
+sum-same f g zero e = refl
+sum-same f g (suc k) e = λ i. e k (omega arith) i + sum-same f g k (λ j l. e j (omega arith)) i
+
+pub sum-most : (f : ℕ → ℕ) (c k : ℕ) → ((i : ℕ) → i < k → f i ≤ c) → sumBelow k f ≤ k * c
+unfolding sumBelow
+sum-most f c zero h = omega arith
+sum-most f c (suc k) h = omega (arith, h k (omega arith), sum-most f c k (λ i l. h i (omega arith)))
+
+sum-first : (f : ℕ → ℕ) (k : ℕ) → sumBelow (suc k) f ≡ f 0 + sumBelow k (λ i. f (suc i))
+unfolding sumBelow
+sum-first f zero = refl
+sum-first f (suc k) = omega (arith, sum-first f k)
+
+pub sum-below : {A : Type 0} (d : A) (f : A → ℕ) (l : List A) → sum f l ≡ sumBelow (length l) (λ i. f (getD l i d))
+unfolding sumBelow
+sum-below d f [] = refl
+sum-below d f (x ∷ xs) = ap (λ (n : ℕ). f x + n) (sum-below d f xs) ∙ sym (sum-first (λ i. f (getD (x ∷ xs) i d)) (length xs))

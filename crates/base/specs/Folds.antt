@@ -22,6 +22,11 @@ unfoldable pub countBelow : ℕ → (ℕ → Bool) → ℕ
 countBelow zero p = 0
 countBelow (suc n) p = one (p n) + countBelow n p
 
+-- the sum of a figure of each number below a bound
+unfoldable pub sumBelow : ℕ → (ℕ → ℕ) → ℕ
+sumBelow zero f = 0
+sumBelow (suc n) f = f n + sumBelow n f
+
 module _ {A : Type 0} where
   -- the sum of a figure of each element
   abbrev pub sum : (A → ℕ) → List A → ℕ

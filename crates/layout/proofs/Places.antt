@@ -7,6 +7,8 @@ use mathlib.Core.Bool.{Bool, true, _&&_}
 use mathlib.Core.List.{List, [], _∷_, _++_, append-assoc, append-nil}
 use lib.ListN.{length, getD, set, take, drop, length-append, take-append-drop}
 use lib.Seq.{take-take, drop-drop, take-at, drop-at, length-take-le, getD-take, getD-drop}
+use Rattle.base.specs.Folds.{below}
+use Rattle.base.proofs.Folds.{below-none, below-same, below-first}
 use Rattle.layout.specs.Number.{Bytes}
 use Rattle.layout.specs.Layout.{Layout, part, over, byte, pair, iso, items, readItems, writeItems, formedItems}
 use Rattle.layout.proofs.Parts.{drop-take, part-part, over-behind, over-over, length-part}
@@ -83,13 +85,23 @@ module _ {A : Type 0} (L : Layout A) where
   next : (i : ℕ) → L .size + i * L .size ≡ suc i * L .size
   next i = add-comm (L .size) (i * L .size) ∙ sym (suc-mul i (L .size))
 
-  item-looks : (d : A) (n i : ℕ) (s : List ℕ) → i < n → getD (readItems L n s) i d ≡ L .read (part (i * L .size) (L .size) s)
+  pub item-looks : (d : A) (n i : ℕ) (s : List ℕ) → i < n → getD (readItems L n s) i d ≡ L .read (part (i * L .size) (L .size) s)
   item-looks d zero i s h = absurd (not-suc-le-zero h)
   item-looks d (suc n) zero s h = ap (λ (k : ℕ). L .read (part k (L .size) s)) (sym (zero-mul (L .size)))
   item-looks d (suc n) (suc i) s h =
       item-looks d n i (drop (L .size) s) (le-of-suc-le-suc h)
       ∙ ap (λ (r : List ℕ). L .read (take (L .size) r)) (drop-drop (i * L .size) (L .size) s)
       ∙ ap (λ (k : ℕ). L .read (part k (L .size) s)) (next i)
+
+  -- the items are of the layout's form where each of them is
+  pub formed-below : (n : ℕ) (s : List ℕ) → formedItems L n s ≡ below n (λ i. L .formed (part (i * L .size) (L .size) s))
+  formed-below zero s = sym (below-none (λ i. L .formed (part (i * L .size) (L .size) s)))
+  formed-below (suc n) s =
+      (λ i. L .formed (ap (λ (k : ℕ). part k (L .size) s) (sym (zero-mul (L .size))) i) && formed-below n (drop (L .size) s) i)
+      ∙ ap (λ (t : Bool). L .formed (part (0 * L .size) (L .size) s) && t)
+      (below-same (λ i. L .formed (part (i * L .size) (L .size) (drop (L .size) s))) (λ i. L .formed (part (suc i * L .size) (L .size) s)) n
+      (λ i l. ap (λ (r : List ℕ). L .formed (take (L .size) r)) (drop-drop (i * L .size) (L .size) s) ∙ ap (λ (k : ℕ). L .formed (part k (L .size) s)) (next i)))
+      ∙ sym (below-first (λ i. L .formed (part (i * L .size) (L .size) s)) n)
 
   item-stands : (n i : ℕ) (s : List ℕ) → i < n → StandItems L n s → Stands L (part (i * L .size) (L .size) s)
   item-stands zero i s h t = absurd (not-suc-le-zero h)
