@@ -1,2 +1,4 @@
 pub mod Tests
 pub mod Folds
+pub mod Maps
+pub mod Lists

@@ -1,7 +1,7 @@
 -- Laws of tests, each by the cases of its Bools.
 use mathlib.Core.Path.{_≡_, refl, sym, ap, _∙_}
 use mathlib.Core.Logic.{_⊎_, inl, inr, ⊎-elim}
-use mathlib.Core.Bool.{Bool, true, false, not, _&&_, _||_}
+use mathlib.Core.Bool.{Bool, true, false, not, cond, _&&_, _||_}
 use Prim.Native.Nat.{ℕ, zero, suc, _≤_, _<_}
 use native.Mathlib.Decide.{ℕ-discrete, decLt}
 use native.Mathlib.Omega.{arith}
@@ -58,6 +58,14 @@ pub and-true : (a : Bool) → (a && true) ≡ a
 and-true true = refl
 and-true false = refl
 
+-- what stands behind a test may use that it passed
+pub and-under : (a b c : Bool) → (a ≡ true → b ≡ c) → (a && b) ≡ (a && c)
+and-under true b c f = f refl
+and-under false b c f = refl
+
+pub and-known : (a b : Bool) → a ≡ true → (a && b) ≡ b
+and-known a b e = ap (λ (t : Bool). t && b) e
+
 -- ---- or
 
 pub or-l : (a b : Bool) → (a || b) ≡ false → a ≡ false
@@ -105,6 +113,22 @@ pub same-test : (a b : Bool) → (a ≡ true → b ≡ true) → (b ≡ true →
 same-test true b f g = sym (f refl)
 same-test false true f g = g refl
 same-test false false f g = refl
+
+-- a property of both choices is one of the chosen
+pub cond-of : {A : Type 0} (P : A → Type 0) (t : Bool) (a b : A) → P a → P b → P (cond t a b)
+cond-of P true a b pa pb = pa
+cond-of P false a b pa pb = pb
+
+pub or-keeps : (a b x y : Bool) → (a ≡ true → x ≡ true) → (b ≡ true → y ≡ true) → (a || b) ≡ true → (x || y) ≡ true
+or-keeps a b true y f g h = refl
+or-keeps true b false y f g h = differs (sym (f refl))
+or-keeps false b false y f g h = g h
+
+-- "yes, and not .." fails
+pub and-not : (a b : Bool) → (a && not b) ≡ false → a ≡ true → b ≡ true
+and-not true true h e = refl
+and-not true false h e = sym h
+and-not false b h e = differs (sym e)
 
 -- ---- the number of a test
 

@@ -3,3 +3,5 @@ pub mod Numbers
 pub mod Laws
 pub mod Places
 pub mod Copies
+pub mod Forms
+pub mod Zeros

@@ -1,0 +1,5 @@
+pub mod Boards
+pub mod Words
+pub mod Claims
+pub mod Bypass
+pub mod ClaimBytes

@@ -1,0 +1,4 @@
+pub mod Boards
+pub mod Claims
+pub mod Moves
+pub mod ClaimBytes

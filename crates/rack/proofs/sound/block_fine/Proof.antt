@@ -1,0 +1,76 @@
+-- `rack::sound::block_fine` meets its contract: its tests are those of the definition.
+use Prim.Native.Nat.{suc, _+_, _*_}
+use native.Mathlib.Omega.{arith}
+use Rattle.base.specs.Folds.{below}
+use Rattle.arbiter.specs.Claims.{soundClaims}
+use Rattle.arbiter.specs.ClaimBytes.{claimsAt}
+use mathlib.Core.Path.{_≡_, _∙_}
+use mathlib.Core.Bool.{_&&_}
+use lib.Dec.{eqb}
+use Rattle.rack.specs.Deciding.{cellFine, resting, blockFine}
+use borrow.Author.Needs.{needs}
+use Rattle.rack.proofs.sound.block_fine.Statement.{statement}
+use Rattle.rack.proofs.sound.block_fine.Tie as tie
+
+wide-requires : tie.Need-wide-requires
+wide-requires c κs = search needs
+
+cast-cells : tie.Need-cast-cells
+cast-cells c = search needs
+
+add-cells : tie.Need-add-cells
+add-cells c = search needs
+
+cells-requires : tie.Need-cells-requires
+cells-requires c κs = search needs
+
+add-sum : tie.Need-add-sum
+add-sum c = search needs
+
+add-sound-at : tie.Need-add-sound-at
+add-sound-at c = search needs
+
+sound-at-requires : tie.Need-sound-at-requires
+sound-at-requires c κs = search needs
+
+wide-requires-2 : tie.Need-wide-requires-2
+wide-requires-2 c κs = search needs
+
+add-both : tie.Need-add-both
+add-both c = search needs
+
+both-requires : tie.Need-both-requires
+both-requires c κs = search needs
+
+both-requires-2 : tie.Need-both-requires-2
+both-requires-2 c κs = search needs
+
+returns : tie.Need-returns
+unfolding blockFine
+returns c = let s = c .before .before .before .before .before .before .before .before .args in
+    let count : c .before .before .before .before .before .before .wide .result + 1 ≡ suc (s .boards) = omega arith in
+    c .both2 .ensures
+    ∙ (λ i.
+    (c .before .both .ensures
+    ∙ (λ j. c .before .before .before .before .before .cells .ensures .0 j && eqb (c .before .before .before .before .before .cells .ensures .1 .0 j + s .mesh) (c .before .before .wide2 .ensures .0 j + 65536))) i
+    && c .before .before .before .sound-at .ensures i)
+    ∙ (λ i.
+    below (count i) (λ k. cellFine (s .rec .now) (s .at + 35 * k)) && eqb (resting (s .rec .now) (s .at) (count i) + s .mesh) (s .tokens + 65536)
+    && soundClaims (s .boards) (claimsAt (s .boards) (s .at + 560) (s .rec .now)))
+
+pub block-fine-spec : {M : Type 1} → statement M
+block-fine-spec =
+    tie.close
+    (tie.spec
+    wide-requires
+    cast-cells
+    add-cells
+    cells-requires
+    add-sum
+    add-sound-at
+    sound-at-requires
+    wide-requires-2
+    add-both
+    both-requires
+    both-requires-2
+    returns)

@@ -1,0 +1,30 @@
+-- Document 01, "Steps": the changes of single figures that the steps are made of.
+use Prim.Native.Nat.{ℕ}
+use mathlib.Core.Path.{_≡_}
+use mathlib.Core.Bool.{Bool}
+use mathlib.Core.List.{List}
+use Rattle.protocol.specs.declared.Message.{Message}
+use Rattle.protocol.specs.Rack.{Owner, Cell, Rack, cellAt}
+use Rattle.protocol.specs.Rules.{withCell}
+use Rattle.record.specs.declared.cells.Marks.{Marks}
+
+-- a cell's plain count, owner's mark and valid mark, as the code has them
+pub record MarksOf (x : Cell) (h : Marks) : Type 0 where
+  pub plain : h .plain ≡ x .plain
+  pub owner : h .owner ≡ x .owner
+  pub valid : h .valid ≡ x .valid
+
+-- the cell with other marks and the same words, and with other marks and words
+abbrev pub marked : Cell → Marks → Cell
+marked x h = record { plain = h .plain; owner = h .owner; valid = h .valid; words = x .words }
+
+abbrev pub filled : Marks → List ℕ → Cell
+filled h ws = record { plain = h .plain; owner = h .owner; valid = h .valid; words = ws }
+
+-- a rack with another cell
+abbrev pub onCell : Rack → ℕ → ℕ → Cell → Rack
+onCell r b c x = withCell r b c x (r .mesh)
+
+-- a rack with another mesh
+abbrev pub withMesh : Rack → List Message → Rack
+withMesh r ms = record { boards = r .boards; tokens = r .tokens; blocks = r .blocks; mesh = ms }

@@ -1,0 +1,106 @@
+-- `wire::exports::hyl_wire_read` meets its contract: the reader's answer, as one number and twelve places.
+use mathlib.Core.Path.{_≡_, refl, sym, _∙_}
+use Prim.Native.Nat.{ℕ, _+_, _≤_, _<_}
+use native.Mathlib.Omega.{arith}
+use mathlib.Core.List.{List}
+use lib.ListN.{length, take}
+use lib.Seq.{take-all}
+use borrow.Author.Tests.{le-leb, lt-leb}
+use Rattle.refusals.specs.declared.Refusal.{Refusal}
+use Rattle.refusals.specs.declared.Refusal.the-variants.{ShortBuffer}
+use Rattle.refusals.specs.Packing.{done, refused}
+use Rattle.wire.specs.declared.Step.{Step}
+use Rattle.wire.specs.declared.Reading.{Reading}
+use Rattle.wire.specs.declared.Reading.the-variants.{Step as Read, Refused}
+use Rattle.wire.specs.Kinds.{places}
+use Rattle.wire.specs.Writer.{place}
+use Rattle.wire.specs.Entries.{readAnswer, readAfter}
+use Rattle.wire.proofs.Table.{places-length}
+use Rattle.wire.proofs.Placing.{placed-room, placed-short}
+use borrow.Author.Needs.{needs}
+use Rattle.wire.proofs.exports.hyl_wire_read.Statement.{statement}
+use Rattle.wire.proofs.exports.hyl_wire_read.Tie as tie
+
+-- the three answers
+module _ (a : Reading) where
+  torn : (r : Refusal) (out : List ℕ) {n : ℕ} → Refused r ≡ a → n ≡ refused r → (n ≡ readAnswer a out) × (out ≡ readAfter a out)
+  unfolding readAnswer readAfter
+  torn r out e p = rw (← e) (p, refl)
+
+  module _ (s : Step) (out : List ℕ) (e : Read s ≡ a) where
+    short : length out < 12 → {n : ℕ} → n ≡ refused ShortBuffer → (n ≡ readAnswer a out) × (out ≡ readAfter a out)
+    unfolding readAnswer readAfter
+    short h p =
+        let no-room : length out < 0 + length (places s) = omega (arith, places-length s) in
+        rw (← e, lt-leb (0 + length (places s)) (length out) no-room) (p, placed-short (places s) 0 out no-room)
+
+    full : 12 ≤ length out → {n : ℕ} {after : List ℕ} → n ≡ done 0 → after ≡ place 0 (take 12 (places s)) out → (n ≡ readAnswer a out) × (after ≡ readAfter a out)
+    unfolding readAnswer readAfter
+    full h p q =
+        let room : 0 + length (places s) ≤ length out = omega (arith, places-length s) in
+        let all : take 12 (places s) ≡ places s = take-all 12 (places s) (omega (arith, places-length s)) in
+        rw (← e, le-leb (0 + length (places s)) (length out) room) (p, (rw all at q) ∙ placed-room (places s) 0 out room)
+
+read-requires : tie.Need-read-requires
+read-requires c κs = search needs
+
+enum-known-step : tie.Need-enum-known-step
+enum-known-step c = search needs
+
+pack-refused-requires : tie.Need-pack-refused-requires
+pack-refused-requires c κs = search needs
+
+returns : tie.Need-returns
+returns c =
+    let step = c .before .before .before in
+    short _ (step .step .given .0 .0) _ (sym (step .step .given .1) ∙ step .before .before .read .ensures) (omega arith) (c .pack-refused .ensures)
+
+places-of-requires : tie.Need-places-of-requires
+places-of-requires c κs = search needs
+
+slice-aggregate-copy-twelve : tie.Need-slice-aggregate-copy-twelve
+slice-aggregate-copy-twelve c = search needs
+
+copy-twelve-requires : tie.Need-copy-twelve-requires
+copy-twelve-requires c κs = search needs
+
+pack-done-requires : tie.Need-pack-done-requires
+pack-done-requires c κs = search needs
+
+enum-known-refusal : tie.Need-enum-known-refusal
+enum-known-refusal c = search needs
+
+pack-refused-requires-2 : tie.Need-pack-refused-requires-2
+pack-refused-requires-2 c κs = search needs
+
+same-length : tie.Need-same-length
+same-length c = search needs
+
+returns-2 : tie.Need-returns-2
+returns-2 c =
+    let tested = c .before .before .before .before .before .before .before in
+    let step = tested .before .before in
+    full _ (step .step .given .0 .0) _ (sym (step .step .given .1) ∙ step .before .before .read .ensures) (omega arith) (c .pack-done .ensures) (rw (c .before .before .before .before .before .before .places-of .ensures) at (c .before .before .before .copy-twelve .ensures))
+
+returns-3 : tie.Need-returns-3
+returns-3 c =
+    let refusal = c .before .before in
+    torn _ _ _ (sym (refusal .refusal .given .1) ∙ refusal .before .before .read .ensures) (c .pack-refused2 .ensures)
+
+pub hyl-wire-read-spec : {M : Type 1} → statement M
+hyl-wire-read-spec =
+    tie.close
+    (tie.spec
+    read-requires
+    enum-known-step
+    pack-refused-requires
+    returns
+    places-of-requires
+    slice-aggregate-copy-twelve
+    copy-twelve-requires
+    pack-done-requires
+    enum-known-refusal
+    pack-refused-requires-2
+    same-length
+    returns-2
+    returns-3)

@@ -1,0 +1,52 @@
+-- Document 01, "Step records": the reader and the writer as C calls them, with a step as its twelve numbers.
+use Prim.Native.Nat.{ℕ}
+use mathlib.Core.List.{List}
+use mathlib.Core.Bool.{Bool, _&&_, cond}
+use lib.ListN.{length, getD, take}
+use lib.Dec.{eqb, leb}
+use Rattle.base.specs.Folds.{below}
+use Rattle.refusals.specs.declared.Refusal.the-variants.{Torn, ShortBuffer}
+use Rattle.refusals.specs.Packing.{done, refused}
+use Rattle.wire.specs.declared.Reading.{Reading}
+use Rattle.wire.specs.declared.Reading.the-variants.{Step, Refused}
+use Rattle.wire.specs.declared.Written.{Written}
+use Rattle.wire.specs.declared.Written.the-variants.{Count, Refused as NotWritten}
+use Rattle.wire.specs.Kinds.{places, kindIn, kindOf, fit}
+use Rattle.wire.specs.Record.{stepBytes}
+use Rattle.wire.specs.Writer.{roomFor, written, placed}
+
+-- Reading, where a step's numbers go to the front of `out`: the result, and `out` afterwards.
+unfoldable pub readAnswer : Reading → List ℕ → ℕ
+readAnswer (Step s) out = cond (roomFor (places s) 0 out) (done 0) (refused ShortBuffer)
+readAnswer (Refused r) out = refused r
+
+unfoldable pub readAfter : Reading → List ℕ → List ℕ
+readAfter (Step s) out = placed (places s) 0 out
+readAfter (Refused r) out = out
+
+-- twelve numbers are the same
+unfoldable pub same : List ℕ → List ℕ → Bool
+same p q = below 12 (λ i. eqb (getD p i 0) (getD q i 0))
+
+-- the step that twelve numbers tell, if they fit its fields and are the numbers of the step
+unfoldable pub toldBy : List ℕ → Reading
+toldBy p =
+    cond (fit (kindOf (kindIn p) .fields) p && same (places (kindOf (kindIn p) .step p)) p) (Step (kindOf (kindIn p) .step p))
+    (Refused Torn)
+
+-- the step that numbers tell by their first twelve
+unfoldable pub told : List ℕ → Reading
+told ns = cond (leb 12 (length ns)) (toldBy (take 12 ns)) (Refused Torn)
+
+-- Writing the step that numbers tell into `out` from an offset on: the result, and `out` afterwards.
+abbrev pub writtenAnswer : Written → ℕ
+writtenAnswer (Count n) = done n
+writtenAnswer (NotWritten r) = refused r
+
+unfoldable pub writeAnswer : Reading → ℕ → List ℕ → ℕ
+writeAnswer (Step s) at out = writtenAnswer (written (stepBytes s) at out)
+writeAnswer (Refused r) at out = refused r
+
+unfoldable pub writeAfter : Reading → ℕ → List ℕ → List ℕ
+writeAfter (Step s) at out = placed (stepBytes s) at out
+writeAfter (Refused r) at out = out

@@ -1,0 +1,5 @@
+pub mod Kinds
+pub mod Record
+pub mod Reader
+pub mod Writer
+pub mod Entries
