@@ -12,7 +12,7 @@ use lib.Dec.{eqb, leb, ltb}
 use borrow.Author.Tests.{eq-eqb, ne-eqb, eqb-true, le-leb, leb-true, lt-leb, ltb-true, lt-ltb}
 use Rattle.base.specs.Folds.{one, implies, below, sumBelow, sum, every}
 use Rattle.base.proofs.Tests.{and-l, and-r, and-of, and-left, and-right, and-true, same-test, lt-or-le, implied, implies-of, one-lt, eqb-one}
-use Rattle.base.proofs.Folds.{below-of, below-at, below-same, at-set, every-below, sum-next, sum-same, sum-most, sum-below}
+use Rattle.base.proofs.Folds.{below-of, below-at, below-same, at-set, every-below, sum-next, sum-most, sum-below}
 use Rattle.layout.specs.Number.{Bytes}
 use Rattle.layout.specs.Layout.{part, pair, items}
 use Rattle.layout.proofs.Laws.{length-readItems}
@@ -20,7 +20,7 @@ use Rattle.layout.proofs.Places.{Place, first, iso-place}
 use Rattle.arbiter.specs.Claims.{soundClaims}
 use Rattle.arbiter.specs.ClaimBytes as bytes
 use Rattle.protocol.specs.declared.Message.{Message}
-use Rattle.protocol.specs.Rack.{Cell, Block, Rack, meshLimit, owners, held, carried, noCell, noMessage, blockAt, cellAt, claimsAt, messageAt, inFlight, tokensOf, ownersOf}
+use Rattle.protocol.specs.Rack.{Cell, meshLimit, owners, held, carried, noCell, noMessage, blockAt, cellAt, claimsAt, messageAt, tokensOf, ownersOf}
 use Rattle.protocol.specs.Sound.{sizes, soundCell, soundMessage, soundBlock, sound}
 use Rattle.base.proofs.Tests.{cond-of}
 use Rattle.record.specs.Record.{words, cell, message, block, toBlock, fromBlock, recordLength, layoutOf, get}
@@ -52,21 +52,19 @@ message-order o d e w x y a k t c h =
 
 -- ---- a cell and a message by their bytes
 
--- two marks by their order
-pub marks-is : (o v : ℕ) → (leb o v && ltb v 2) ≡ marksFine o v
-marks-is o v =
-    same-test (leb o v && ltb v 2) (marksFine o v)
+-- a test that asks for the marks' order
+pub marks-is : (t : Bool) (o v : ℕ) → (t ≡ true → (o ≤ v) × (v < 2)) → (o ≤ v → v < 2 → t ≡ true) → t ≡ marksFine o v
+marks-is t o v f g =
+    same-test t (marksFine o v)
     (λ q.
-    let a : o ≤ v = leb-true o v (and-l (leb o v) (ltb v 2) q) in
-    let b : v < 2 = ltb-true v 2 (and-r (leb o v) (ltb v 2) q) in
+    let a : o ≤ v = f q .0 in
+    let b : v < 2 = f q .1 in
     and-of (ltb o 2 && ltb v 2) (implies (eqb o 1) (eqb v 1)) (and-of (ltb o 2) (ltb v 2) (lt-ltb o 2 (omega arith)) (lt-ltb v 2 b))
     (implies-of (eqb o 1) (eqb v 1) (λ e. eq-eqb v 1 (omega (arith, eqb-true o 1 e)))))
     (λ q.
     let a : o < 2 = ltb-true o 2 (search (and-l, and-r)) in
-    let g : eqb o 1 ≡ true → eqb v 1 ≡ true = implied (eqb o 1) (eqb v 1) (search (and-l, and-r)) in
-    and-of (leb o v) (ltb v 2)
-    (le-leb o v (⊎-elim (λ z. omega arith) (λ z. omega (arith, eqb-true v 1 (g (eq-eqb o 1 (omega arith))))) (lt-or-le o 1)))
-    (search (and-l, and-r)))
+    let i : eqb o 1 ≡ true → eqb v 1 ≡ true = implied (eqb o 1) (eqb v 1) (search (and-l, and-r)) in
+    g (⊎-elim (λ z. omega arith) (λ z. omega (arith, eqb-true v 1 (i (eq-eqb o 1 (omega arith))))) (lt-or-le o 1)) (ltb-true v 2 (search (and-l, and-r))))
 
 -- a valid mark that is 0 or 1 asks no more than itself
 valid-is : (h v : ℕ) → v < 2 → implies (eqb v 1) (ltb 0 h) ≡ leb v h

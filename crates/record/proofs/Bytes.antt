@@ -3,7 +3,7 @@ use Prim.Native.Nat.{ℕ, suc, _+_, _*_, _≤_, suc-le-suc}
 use native.Mathlib.Nat.{le-refl}
 use native.Mathlib.Omega.{arith}
 use mathlib.Core.Path.{_≡_, refl, sym, ap, _∙_}
-use mathlib.Core.Bool.{Bool, true, _&&_}
+use mathlib.Core.Bool.{true, _&&_}
 use mathlib.Core.List.{List}
 use lib.ListN.{length, getD, drop}
 use lib.Seq.{getD-take, getD-drop}
@@ -11,12 +11,10 @@ use lib.Dec.{eqb, ltb}
 use Rattle.base.specs.Folds.{below, every}
 use Rattle.base.proofs.Tests.{and-true}
 use Rattle.base.proofs.Folds.{below-of, below-same}
-use Rattle.layout.specs.Layout.{Layout, part, byte, flag, big, pair, items}
+use Rattle.layout.specs.Layout.{part, byte, flag, big, pair, items}
 use Rattle.layout.proofs.Laws.{length-readItems}
 use Rattle.layout.proofs.Places.{read-byte, read-pair, formed-below}
 use Rattle.arbiter.specs.ClaimBytes.{claims}
-use Rattle.protocol.specs.declared.Message.{Message}
-use Rattle.protocol.specs.Rack.{Cell}
 use Rattle.record.specs.Record.{tokens, words, load, toCell, cell, toMessage, message, block, figures, layoutOf}
 use Rattle.record.proofs.Parts.{ends, cell-size, message-size, block-size}
 use Rattle.layout.proofs.Forms.{formed-pair, formed-items, numbers-zero}

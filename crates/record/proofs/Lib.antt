@@ -6,3 +6,4 @@ pub mod Writing
 pub mod Leaves
 pub mod Holdable
 pub mod Live
+pub mod Calls

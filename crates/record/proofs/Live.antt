@@ -28,9 +28,9 @@ pub record Live (s : List ℕ) : Type 0 where
   pub fits : Fits (get s)
 
 -- words read from four bytes fit 32 bits
-get-fits : (s : List ℕ) → Formed s → Fits (get s)
+pub words-fit : (s : List ℕ) → Formed s → Fits (get s)
 unfolding get
-get-fits s ok =
+words-fit s ok =
     let held = law s ok .holds s (ok .bytes) .1 in
     record {
       cells = λ b l.
@@ -39,17 +39,17 @@ get-fits s ok =
       mesh = all-map MessageFits (λ x. All (λ (w : ℕ). w < 2 ^ 32) (x .words)) (get s .mesh) (held .0 .1) (λ x h. h .1 .1 .1);
     }
 
-module _ (s : List ℕ) (bytes : Bytes s) (h : soundBytes s ≡ true) where
-  rack-sound : Sound (get s)
-  unfolding soundBytes
-  rack-sound = sound-facts (get s) (and-r (wellFormed s) (sound (get s)) h)
+pub rack-sound : (s : List ℕ) → soundBytes s ≡ true → Sound (get s)
+unfolding soundBytes
+rack-sound s h = sound-facts (get s) (and-r (wellFormed s) (sound (get s)) h)
 
+module _ (s : List ℕ) (bytes : Bytes s) (h : soundBytes s ≡ true) where
   pub live-of : Live s
   unfolding soundBytes meshLimit
   live-of =
       let ok : Formed s =
-      formed-of s bytes (omega (arith, boards-is s, boards-low (get s) rack-sound)) (omega (arith, mesh-is s, rack-sound .few)) (and-l (wellFormed s) (sound (get s)) h) in
-      record { formed = ok; sound = rack-sound; fits = get-fits s ok }
+      formed-of s bytes (omega (arith, boards-is s, boards-low (get s) (rack-sound s h))) (omega (arith, mesh-is s, rack-sound s h .few)) (and-l (wellFormed s) (sound (get s)) h) in
+      record { formed = ok; sound = rack-sound s h; fits = words-fit s ok }
 
 module _ (s : List ℕ) (live : Live s) where
   pub sound-of : soundBytes s ≡ true

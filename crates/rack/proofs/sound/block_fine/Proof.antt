@@ -1,13 +1,8 @@
 -- `rack::sound::block_fine` meets its contract: its tests are those of the definition.
-use Prim.Native.Nat.{suc, _+_, _*_}
+use Prim.Native.Nat.{suc, _+_}
 use native.Mathlib.Omega.{arith}
-use Rattle.base.specs.Folds.{below}
-use Rattle.arbiter.specs.Claims.{soundClaims}
-use Rattle.arbiter.specs.ClaimBytes.{claimsAt}
-use mathlib.Core.Path.{_≡_, _∙_}
-use mathlib.Core.Bool.{_&&_}
-use lib.Dec.{eqb}
-use Rattle.rack.specs.Deciding.{cellFine, resting, blockFine}
+use mathlib.Core.Path.{_≡_}
+use Rattle.rack.specs.Deciding.{blockFine}
 use borrow.Author.Needs.{needs}
 use Rattle.rack.proofs.sound.block_fine.Statement.{statement}
 use Rattle.rack.proofs.sound.block_fine.Tie as tie
@@ -47,16 +42,16 @@ both-requires-2 c κs = search needs
 
 returns : tie.Need-returns
 unfolding blockFine
-returns c = let s = c .before .before .before .before .before .before .before .before .args in
-    let count : c .before .before .before .before .before .before .wide .result + 1 ≡ suc (s .boards) = omega arith in
-    c .both2 .ensures
-    ∙ (λ i.
-    (c .before .both .ensures
-    ∙ (λ j. c .before .before .before .before .before .cells .ensures .0 j && eqb (c .before .before .before .before .before .cells .ensures .1 .0 j + s .mesh) (c .before .before .wide2 .ensures .0 j + 65536))) i
-    && c .before .before .before .sound-at .ensures i)
-    ∙ (λ i.
-    below (count i) (λ k. cellFine (s .rec .now) (s .at + 35 * k)) && eqb (resting (s .rec .now) (s .at) (count i) + s .mesh) (s .tokens + 65536)
-    && soundClaims (s .boards) (claimsAt (s .boards) (s .at + 560) (s .rec .now)))
+returns c = let count : c .before .before .before .before .before .before .wide .result + 1 ≡ suc (c .before .before .before .before .before .before .before .before .args .boards) = omega arith in
+    rw (
+      c .both2 .ensures,
+      c .before .both .ensures,
+      c .before .before .before .sound-at .ensures,
+      c .before .before .before .before .before .cells .ensures .0,
+      c .before .before .before .before .before .cells .ensures .1 .0,
+      c .before .before .wide2 .ensures .0,
+      count,
+    )
 
 pub block-fine-spec : {M : Type 1} → statement M
 block-fine-spec =

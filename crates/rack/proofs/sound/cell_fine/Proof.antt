@@ -1,8 +1,5 @@
 -- `rack::sound::cell_fine` meets its contract: its tests are those of the cell's bytes.
-use Prim.Native.Nat.{_+_}
-use mathlib.Core.Path.{sym, _∙_}
-use mathlib.Core.Bool.{_&&_}
-use lib.Dec.{leb}
+use mathlib.Core.Path.{sym}
 use Rattle.rack.proofs.Deciding.{cell-is}
 use borrow.Author.Needs.{needs}
 use Rattle.rack.proofs.sound.cell_fine.Statement.{statement}
@@ -43,9 +40,8 @@ both-requires c κs = search needs
 
 returns : tie.Need-returns
 returns c = let s = c .before .before .before .before .before .before .before .before .before .args in
-    c .both .ensures
-    ∙ (λ i. c .before .before .marks-fine .ensures i && leb (c .before .wide3 .ensures .0 i) (c .before .before .before .before .wide .ensures .0 i + c .before .before .before .wide2 .ensures .0 i))
-    ∙ sym (cell-is (s .rec .now) (s .at))
+    rw (c .both .ensures, c .before .before .marks-fine .ensures, c .before .wide3 .ensures .0, c .before .before .before .before .wide .ensures .0, c .before .before .before .wide2 .ensures .0)
+    (sym (cell-is (s .rec .now) (s .at)))
 
 pub cell-fine-spec : {M : Type 1} → statement M
 cell-fine-spec =

@@ -11,7 +11,7 @@ use Rattle.base.specs.Folds.{below}
 use Rattle.base.proofs.Tests.{differs, and-of}
 use Rattle.base.proofs.Folds.{below-none, below-next, below-fails}
 use Rattle.rack.specs.Deciding.{messageFine, flying}
-use Rattle.rack.proofs.Deciding.{message-block, flying-none, flying-next, flying-most, sums-turn}
+use Rattle.rack.proofs.Deciding.{message-block, flying-none, flying-most, sums-turn}
 use Rattle.rack.proofs.sound.mesh_fine.Statement.{statement}
 use Rattle.rack.proofs.sound.mesh_fine.Tie as tie
 

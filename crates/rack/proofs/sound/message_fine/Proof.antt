@@ -1,8 +1,6 @@
 -- `rack::sound::message_fine` meets its contract: its tests are those of the message's bytes, and of its words where it has no data.
-use Prim.Native.Nat.{_+_}
 use mathlib.Core.Path.{_≡_, _∙_}
 use mathlib.Core.Bool.{_&&_}
-use lib.Dec.{ltb}
 use Rattle.rack.proofs.Deciding.{headFine, message-full, message-bare}
 use borrow.Author.Needs.{needs}
 use Rattle.rack.proofs.sound.message_fine.Statement.{statement}
@@ -10,11 +8,7 @@ use Rattle.rack.proofs.sound.message_fine.Tie as tie
 
 -- all but the words
 head : (c : tie.After-both2) → c .both2 .result ≡ headFine (c .before .before .before .before .before .before .before .before .before .before .args .rec .now) (c .before .before .before .before .before .before .before .before .before .before .args .at) (c .before .before .before .before .before .before .before .before .before .before .args .boards) (c .before .before .before .before .before .before .before .before .before .before .args .blocks)
-head c =
-    c .both2 .ensures
-    ∙ (λ i.
-    (c .before .both .ensures ∙ (λ j. c .before .before .marks-fine .ensures j && ltb 0 (c .before .before .before .before .wide .ensures .0 j + c .before .before .before .wide2 .ensures .0 j))) i
-    && c .before .before .before .before .before .before .before .before .ends-fine .ensures i)
+head c = rw (c .both2 .ensures, c .before .both .ensures, c .before .before .marks-fine .ensures, c .before .before .before .before .wide .ensures .0, c .before .before .before .wide2 .ensures .0, c .before .before .before .before .before .before .before .before .ends-fine .ensures)
 
 ends-fine-requires : tie.Need-ends-fine-requires
 ends-fine-requires c κs = search needs

@@ -1,5 +1,5 @@
 -- `rack::sound::sizes_fine` meets its contract: its tests are those of the definition, otherwise grouped.
-use mathlib.Core.Path.{_≡_, sym, ap, _∙_}
+use mathlib.Core.Path.{sym, ap, _∙_}
 use mathlib.Core.Bool.{Bool, _&&_, and-assoc}
 use lib.Dec.{leb}
 use borrow.Author.Needs.{needs}

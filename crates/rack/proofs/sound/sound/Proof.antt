@@ -1,11 +1,9 @@
 -- `rack::sound::sound` meets its contract: each test that fails makes the record unsound, and past the others the blocks decide.
-use Prim.Native.Nat.{ℕ, _+_, _*_, _≤_, _<_}
+use Prim.Native.Nat.{ℕ, _+_, _*_, _<_}
 use native.Mathlib.Omega.{arith}
 use mathlib.Core.Path.{_≡_, refl, sym, ap, _∙_}
-use mathlib.Core.Bool.{Bool, true, false, _&&_}
-use mathlib.Core.List.{List}
-use lib.ListN.{length, getD}
-use lib.Dec.{leb}
+use mathlib.Core.Bool.{true}
+use lib.ListN.{getD}
 use borrow.Author.Tests.{not-true, not-false}
 use Rattle.base.specs.Folds.{below}
 use Rattle.rack.specs.Deciding.{messageFine, flying, blockFine}
@@ -16,9 +14,7 @@ use Rattle.rack.proofs.sound.sound.Tie as tie
 
 -- past its test the header is fine
 header : (c : tie.Else2) → headerFine (c .before .before .before .before .before .before .before .before .before .args .rec .now) ≡ true
-header c =
-    sym (c .before .both .ensures ∙ ap (λ (t : Bool). t && leb (getD (c .before .before .before .before .before .before .before .before .before .args .rec .now) 3 0) 64) (c .before .before .sizes-fine .ensures))
-    ∙ not-false _ (c .if2 .left)
+header c = rw (c .before .both .ensures, c .before .before .sizes-fine .ensures) at (not-false (c .before .both .result) (c .if2 .left))
 
 -- the mesh is told by its test, and past it each sum is the weight of its block
 told : (c : tie.After-mesh-fine) → c .mesh-fine .result ≡ meshFine (c .before .before .before .before .before .before .before .before .before .before .before .before .before .before .args .rec .now)
@@ -52,9 +48,8 @@ both-requires : tie.Need-both-requires
 both-requires c κs = search needs
 
 returns-2 : tie.Need-returns-2
-returns-2 c = let s = c .before .before .before .before .before .before .before .before .before .args .rec .now in
-    sym (unsound-header s (λ k. c .before .before .before .before .before .before .before .before .shared-slice-known .given k .fits)
-    (sym (c .before .both .ensures ∙ ap (λ (t : Bool). t && leb (getD s 3 0) 64) (c .before .before .sizes-fine .ensures)) ∙ not-true _ (c .if2 .taken)))
+returns-2 c = sym (unsound-header (c .before .before .before .before .before .before .before .before .before .args .rec .now) (λ k. c .before .before .before .before .before .before .before .before .shared-slice-known .given k .fits)
+    (rw (c .before .both .ensures, c .before .before .sizes-fine .ensures) at (not-true (c .before .both .result) (c .if2 .taken))))
 
 wide-requires : tie.Need-wide-requires
 wide-requires c κs = search needs

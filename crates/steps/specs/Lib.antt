@@ -1,0 +1,3 @@
+pub mod Apply
+pub mod Clear
+pub mod Needs

@@ -1,0 +1,110 @@
+// Steps on a sound record: the refusal table of each kind, and the change that a step makes where it passes.
+ghost use mathlib.Core.Path.{_≡_};
+ghost use Rattle.refusals.specs.declared.Check.the-variants.{Pass};
+ghost use Rattle.protocol.specs.Rules.{check, answer, after, rules};
+ghost use Rattle.protocol.specs.Memory.{reply};
+ghost use Rattle.record.specs.Record.{get, put};
+ghost use Rattle.record.specs.Needs.{Whole};
+ghost use Rattle.steps.specs.Apply.{Ready, recordAfter};
+use protocol::Answer;
+use protocol::Reply;
+use refusals::Check;
+use wire::Step;
+
+pub mod changes;
+pub mod checks;
+
+// The verdict of the refusal table on a step.
+pub fn check(rec: &[u8], step: Step) -> Check
+    requires { ⌜ Whole (now rec) ⌝ }
+    ensures { λ r. ⌜ r ≡ check (get (now (rec .entry))) step ⌝ }
+{
+    match step {
+        Step::Load {
+            component,
+            block,
+            word,
+        } => checks::load(rec, component, block, word),
+        Step::Store {
+            component,
+            block,
+            word,
+            value,
+        } => checks::store(rec, component, block, word, value),
+        Step::Send {
+            component,
+            block,
+            target,
+            plain,
+            owner,
+            data,
+        } => checks::send(rec, component, block, target, plain, owner, data),
+        Step::Deliver { position } => checks::deliver(rec, position),
+        Step::Raise { component, block } => checks::raise(rec, component, block),
+        Step::Lower { component, block } => checks::lower(rec, component, block),
+        Step::Forward { component, block } => checks::forward(rec, component, block),
+    }
+}
+
+// What a step that passes makes of the record, and its answer.
+pub fn change(rec: &mut [u8], step: Step) -> Answer
+    requires { ⌜ Ready (now rec) × (check (get (now rec)) step ≡ Pass) ⌝ }
+    ensures answer { λ r. ⌜ r ≡ answer (get (now (rec .entry))) step ⌝ }
+    ensures buffer { λ r. ⌜ now (rec .exit) ≡ put (after (get (now (rec .entry))) step) (now (rec .entry)) ⌝ }
+{
+    match step {
+        Step::Load {
+            component,
+            block,
+            word,
+        } => changes::load(rec, component, block, word),
+        Step::Store {
+            component,
+            block,
+            word,
+            value,
+        } => {
+            changes::store(rec, component, block, word, value);
+            Answer::Done
+        }
+        Step::Send {
+            component,
+            block,
+            target,
+            plain,
+            owner,
+            data,
+        } => {
+            changes::send(rec, component, block, target, plain, owner, data);
+            Answer::Done
+        }
+        Step::Deliver { position } => {
+            changes::deliver(rec, position);
+            Answer::Done
+        }
+        Step::Raise { component, block } => {
+            changes::raise(rec, component, block);
+            Answer::Done
+        }
+        Step::Lower { component, block } => {
+            changes::lower(rec, component, block);
+            Answer::Done
+        }
+        Step::Forward { component, block } => {
+            changes::forward(rec, component, block);
+            Answer::Done
+        }
+    }
+}
+
+// A step on a sound record: refused, with nothing changed, or made.
+pub fn apply(rec: &mut [u8], step: Step) -> Reply
+    requires { ⌜ Ready (now rec) ⌝ }
+    ensures reply { λ r. ⌜ r ≡ reply (rules (get (now (rec .entry))) step) ⌝ }
+    ensures buffer { λ r. ⌜ now (rec .exit) ≡ recordAfter (now (rec .entry)) (rules (get (now (rec .entry))) step) ⌝ }
+{
+    match check(rec, step) {
+        Check::Refuse(refusal) => Reply::Refused(refusal),
+        Check::Pass => Reply::Accepted(change(rec, step)),
+    }
+}
