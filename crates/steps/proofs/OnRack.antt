@@ -10,6 +10,7 @@ use borrow.Author.Tests.{lt-ltb, le-ltb, ltb-false, leb-false}
 use Rattle.base.proofs.Tests.{or-l, or-r, or-left}
 use Rattle.layout.specs.Number.{Bytes}
 use Rattle.layout.specs.Layout.{part}
+use Rattle.refusals.specs.declared.Check.{Check}
 use Rattle.arbiter.specs.Claims.{Claims}
 use Rattle.arbiter.specs.ClaimBytes.{claims}
 use Rattle.protocol.specs.Rack.{meshLimit, claimsAt}
@@ -65,7 +66,7 @@ module _ (s : List ℕ) (c b : ℕ) {off : Bool} (is : off ≡ offRack (get s) c
   tests : (ltb (getD s 0 0) c || leb (getD s 1 0) b) ≡ false
   tests = off-rack-is s c b ∙ sym is ∙ on
 
-  pub component-on : c ≤ getD s 0 0
+  component-on : c ≤ getD s 0 0
   component-on = ltb-false (getD s 0 0) c (or-l (ltb (getD s 0 0) c) (leb (getD s 1 0) b) tests)
 
   pub block-on : b < getD s 1 0
@@ -74,5 +75,10 @@ module _ (s : List ℕ) (c b : ℕ) {off : Bool} (is : off ≡ offRack (get s) c
   pub in-cell : Whole s → InCell s b c
   in-cell whole = record { whole = whole; block = block-on; component = component-on }
 
-  pub small : Whole s → c < 16
-  small whole = omega (arith, whole .boards, component-on)
+  -- what a verdict on a board's claim asks, and where it is read
+  module _ (whole : Whole s) (at : ℕ) (e : at ≡ 2996 + 592 * b) where
+    pub board-claims : (at + 32 ≤ length s) × (c < 16)
+    board-claims = (claims-room s whole b block-on at e, omega (arith, whole .boards, component-on))
+
+    pub verdict-here : {y : Check} → Bytes s → (f : Claims → ℕ → Check) → ((n : ℕ) → c ≤ n → n < 16 → y ≡ f (claims n .read (part at 32 s)) c) → y ≡ f (claimsAt (get s) b) c
+    verdict-here bytes f h = claims-here s whole b block-on at e bytes (λ k. f k c) (h (getD s 0 0) component-on (omega (arith, whole .boards)))

@@ -18,7 +18,7 @@ use Rattle.wire.specs.declared.Step.the-variants.{Load, Store, Send, Deliver, R
 use Rattle.arbiter.specs.Boards.{lowest}
 use Rattle.arbiter.specs.Claims.{Claims, waiting, active, unclaimed, raiseCheck, lowerCheck}
 use Rattle.protocol.specs.Rack.{Cell, Rack, claimsAt, cellAt, held}
-use Rattle.protocol.specs.Rules.{check, offRack, meshFull, pastMesh}
+use Rattle.protocol.specs.Rules.{check, offRack, meshFull}
 use Rattle.record.specs.declared.cells.Marks.{Marks}
 use Rattle.record.specs.Changes.{MarksOf}
 use Rattle.steps.specs.Clear.{Clear}

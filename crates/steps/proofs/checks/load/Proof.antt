@@ -1,5 +1,6 @@
 -- `steps::checks::load` meets its contract: its tests are those of the table, in order.
 use mathlib.Core.Path.{refl}
+use native.Mathlib.Omega.{arith}
 use Rattle.steps.proofs.Verdicts.{load-off-rack, load-home, load-no-token, load-no-data, load-pass}
 use Rattle.steps.proofs.OnRack.{on-of, in-cell}
 use borrow.Author.Needs.{needs}
@@ -40,7 +41,7 @@ returns-3 c =
     let c4 = c3 .before in
     let c5 = c4 .before in
     let c6 = c5 .before in
-    load-no-token _ _ _ _ (c6 .off-word .ensures) (c5 .if1 .left) (c4 .at-home .ensures) (c3 .if2 .left) (c2 .marks-of .ensures) (c1 .held .ensures) (c .if3 .taken)
+    load-no-token _ _ _ _ (c6 .off-word .ensures) (c5 .if1 .left) (c4 .at-home .ensures) (c3 .if2 .left) (c2 .marks-of .ensures) (c1 .held .ensures) (omega arith)
 
 returns-4 : tie.Need-returns-4
 returns-4 c =

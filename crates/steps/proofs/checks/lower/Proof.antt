@@ -1,8 +1,7 @@
 -- `steps::checks::lower` meets its contract: its tests are those of the table, in order; the rest is the callee's.
-use lib.ListN.{getD}
 use Rattle.arbiter.specs.Claims.{lowerCheck}
 use Rattle.steps.proofs.Verdicts.{lower-off-rack, lower-home, lower-verdict}
-use Rattle.steps.proofs.OnRack.{block-on, small, claims-room, claims-here}
+use Rattle.steps.proofs.OnRack.{board-claims, verdict-here}
 use borrow.Author.Needs.{needs}
 use Rattle.steps.proofs.checks.lower.Statement.{statement}
 use Rattle.steps.proofs.checks.lower.Tie as tie
@@ -30,8 +29,7 @@ lower-check-requires : tie.Need-lower-check-requires
 lower-check-requires c κs =
     let c3 = c .before .before .before in
     let c4 = c3 .before in
-    let c6 = c4 .before .before in
-    (claims-room _ (c6 .pre) _ (block-on _ _ _ (c4 .off-rack .ensures) (c3 .if1 .left)) _ (c .claims-place .ensures), small _ _ _ (c4 .off-rack .ensures) (c3 .if1 .left) (c6 .pre))
+    board-claims _ _ _ (c4 .off-rack .ensures) (c3 .if1 .left) (c4 .before .before .pre) _ (c .claims-place .ensures)
 
 returns-3 : tie.Need-returns-3
 returns-3 c =
@@ -41,8 +39,8 @@ returns-3 c =
     let c4 = c3 .before in
     let c5 = c4 .before in
     let c6 = c5 .before in
-    let c7 = c6 .before in
-    lower-verdict _ _ _ (c5 .off-rack .ensures) (c4 .if1 .left) (c3 .at-home .ensures) (c2 .if2 .left) (claims-here _ (c7 .pre) _ (block-on _ _ _ (c5 .off-rack .ensures) (c4 .if1 .left)) _ (c1 .claims-place .ensures) (λ k. c6 .shared-slice-known .given k .fits) (λ k. lowerCheck k (c7 .args .component)) (c .lower-check .ensures (getD (c7 .args .rec .now) 0 0)))
+    lower-verdict _ _ _ (c5 .off-rack .ensures) (c4 .if1 .left) (c3 .at-home .ensures) (c2 .if2 .left)
+    (verdict-here _ _ _ (c5 .off-rack .ensures) (c4 .if1 .left) (c6 .before .pre) _ (c1 .claims-place .ensures) (λ k. c6 .shared-slice-known .given k .fits) lowerCheck (λ n l h. c .lower-check .ensures n))
 
 pub lower-spec : {M : Type 1} → statement M
 lower-spec =

@@ -1,8 +1,7 @@
 -- `steps::checks::raise` meets its contract: its tests are those of the table, in order; the rest is the callee's.
-use native.Mathlib.Omega.{arith}
 use Rattle.arbiter.specs.Claims.{raiseCheck}
 use Rattle.steps.proofs.Verdicts.{raise-off-rack, raise-home, raise-verdict}
-use Rattle.steps.proofs.OnRack.{component-on, block-on, small, claims-room, claims-here}
+use Rattle.steps.proofs.OnRack.{board-claims, verdict-here}
 use borrow.Author.Needs.{needs}
 use Rattle.steps.proofs.checks.raise.Statement.{statement}
 use Rattle.steps.proofs.checks.raise.Tie as tie
@@ -30,8 +29,7 @@ raise-check-requires : tie.Need-raise-check-requires
 raise-check-requires c κs =
     let c3 = c .before .before .before in
     let c4 = c3 .before in
-    let c6 = c4 .before .before in
-    (claims-room _ (c6 .pre) _ (block-on _ _ _ (c4 .off-rack .ensures) (c3 .if1 .left)) _ (c .claims-place .ensures), small _ _ _ (c4 .off-rack .ensures) (c3 .if1 .left) (c6 .pre))
+    board-claims _ _ _ (c4 .off-rack .ensures) (c3 .if1 .left) (c4 .before .before .pre) _ (c .claims-place .ensures)
 
 returns-3 : tie.Need-returns-3
 returns-3 c =
@@ -41,8 +39,8 @@ returns-3 c =
     let c4 = c3 .before in
     let c5 = c4 .before in
     let c6 = c5 .before in
-    let c7 = c6 .before in
-    raise-verdict _ _ _ (c5 .off-rack .ensures) (c4 .if1 .left) (c3 .at-home .ensures) (c2 .if2 .left) (claims-here _ (c7 .pre) _ (block-on _ _ _ (c5 .off-rack .ensures) (c4 .if1 .left)) _ (c1 .claims-place .ensures) (λ k. c6 .shared-slice-known .given k .fits) (λ k. raiseCheck k (c7 .args .component)) (c .raise-check .ensures _ (component-on _ _ _ (c5 .off-rack .ensures) (c4 .if1 .left)) (omega (arith, c7 .pre .boards))))
+    raise-verdict _ _ _ (c5 .off-rack .ensures) (c4 .if1 .left) (c3 .at-home .ensures) (c2 .if2 .left)
+    (verdict-here _ _ _ (c5 .off-rack .ensures) (c4 .if1 .left) (c6 .before .pre) _ (c1 .claims-place .ensures) (λ k. c6 .shared-slice-known .given k .fits) raiseCheck (c .raise-check .ensures))
 
 pub raise-spec : {M : Type 1} → statement M
 raise-spec =

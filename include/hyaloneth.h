@@ -1,0 +1,95 @@
+/* The engine of the hub card: it keeps the memory of a rack's boards coherent by Token Coherence.
+ *
+ * All state is the record, bytes at the front of a buffer that the caller owns and lends at every call (docs/RECORD.md has its layout). The engine
+ * keeps nothing between calls. A policy hands in step records as bytes; hyaloneth_wire.h writes and reads them.
+ *
+ * A result is one 64-bit number: bits 56 to 63 the kind of answer, bits 0 to 31 its number; HYL_KIND, HYL_REFUSAL, HYL_COUNT, HYL_WORD_OF and
+ * HYL_LETTER_OF take it apart. A call that is refused changes nothing that was lent. No call relies on its caller having looked first: every
+ * buffer, record, step and number is refused or accepted by its contents.
+ *
+ * Duties of the caller, for every pointer and length:
+ *   - the pointer is not NULL, also where the length is 0, and is aligned for its type;
+ *   - it points to at least as many elements as the length says, and the lengths in bytes are below 2^63;
+ *   - what a call may write (`rec`, `at`, `replies`) overlaps nothing else of the same call, and nothing else uses it during the call.
+ * Calls on different records may run at the same time.
+ */
+#ifndef HYALONETH_H
+#define HYALONETH_H
+
+#include "hyaloneth_wire.h"
+
+#ifdef __cplusplus
+extern "C" {
+#endif
+
+/* Kinds of answer besides HYL_DONE and HYL_REFUSED. */
+#define HYL_WORD_GIVEN 2u   /* a load: the word */
+#define HYL_LETTER_GIVEN 3u /* a state letter: its ASCII code */
+
+/* The word of an answered load, and the letter of a state letter; 0 where the result is none. */
+#define HYL_WORD_OF(result) (HYL_KIND(result) == HYL_WORD_GIVEN ? (uint32_t)(result) : (uint32_t)0)
+#define HYL_LETTER_OF(result) (HYL_KIND(result) == HYL_LETTER_GIVEN ? (char)(uint8_t)(result) : '\0')
+
+/* The refusals, by document 01's numbers. HYL_TORN (1) and HYL_SHORT_BUFFER (20) are in hyaloneth_wire.h. */
+#define HYL_UNSOUND 2u      /* buffer too short for a record, or record not sound */
+#define HYL_OFF_RACK 3u     /* component above N, block not below B, word above 7, target above N */
+#define HYL_HOME 4u         /* load, store, raise, lower or letter at component 0 */
+#define HYL_NO_TOKEN 5u     /* load or forward, nothing held */
+#define HYL_NO_DATA 6u      /* load with tokens, not valid; send with data, not valid */
+#define HYL_SHORT 7u        /* store, held below T */
+#define HYL_SELF 8u         /* send to itself; forward by the active board */
+#define HYL_CLAIMED 9u      /* send of a block that has an active board */
+#define HYL_EMPTY 10u       /* send of no token */
+#define HYL_NOT_HELD 11u    /* send of more plain than held, or an owner not held */
+#define HYL_BARE_OWNER 12u  /* send of the owner, data no */
+#define HYL_MESH_FULL 13u   /* send or forward, 64 in flight */
+#define HYL_NO_MESSAGE 14u  /* position not below the count in flight */
+#define HYL_WAITING 15u     /* raise by a waiting board */
+#define HYL_BARRED 16u      /* raise, barring set not empty */
+#define HYL_NOT_WAITING 17u /* lower by a board not waiting */
+#define HYL_UNCLAIMED 18u   /* forward, no active board */
+#define HYL_SIZE 19u        /* opening with N, B or T out of range */
+
+/* The longest record, in bytes: that of 32 blocks. */
+#define HYL_RECORD_LONGEST 21380
+
+/* How many bytes the record of a rack of `blocks` blocks takes: done with the count, or refused with HYL_SIZE where blocks is not 1 to 32. */
+uint64_t hyl_record_len(uint32_t blocks);
+
+/* Opens a record at the front of a buffer: home holds all tokens of each block, valid, and all words are 0. What the buffer held before does not
+ * matter, and its bytes past the record stay as they are.
+ *   rec, rec_len  the buffer, and how many bytes it has
+ *   boards        N, 1 to 15
+ *   blocks        B, 1 to 32
+ *   tokens        T, from N to 64: the tokens of each block
+ * Done; refused with HYL_SIZE, then with HYL_SHORT_BUFFER. */
+uint64_t hyl_open(uint8_t *rec, size_t rec_len, uint32_t boards, uint32_t blocks, uint32_t tokens);
+
+/* Gives one step record to the record in a buffer.
+ *   rec, rec_len    the buffer that holds the record
+ *   step, step_len  the bytes of the step record, all of them
+ * HYL_WORD_GIVEN with the word for a load, HYL_DONE for any other step; refused with HYL_TORN, then HYL_UNSOUND, then by the step's own lines of the
+ * refusal table in document 01's order. Whether the record is sound is decided anew at each call: see hyl_run for many steps. */
+uint64_t hyl_step(uint8_t *rec, size_t rec_len, const uint8_t *step, size_t step_len);
+
+/* Gives the step records that stand one behind the other in a list, as so many calls of hyl_step would, but decides once whether the record is
+ * sound. The list is cut by the records' lengths; a record that the list ends before is one torn step. It stops at the end of the list, or when
+ * `replies` is full.
+ *   rec, rec_len          the buffer that holds the record
+ *   list, list_len        the step records
+ *   at                    where in the list to start; afterwards, where the next call goes on (list_len at the end)
+ *   replies, replies_len  gets one result for each step, in order; the places behind them stay as they are
+ * Gives the number of steps made. */
+size_t hyl_run(uint8_t *rec, size_t rec_len, const uint8_t *list, size_t list_len, size_t *at, uint64_t *replies, size_t replies_len);
+
+/* The state letter of a board and a block: 'M', 'O', 'S' or 'I' (HYL_LETTER_OF). Refused with HYL_UNSOUND, HYL_OFF_RACK or HYL_HOME, in that order.
+ *   rec, rec_len  the buffer that holds the record
+ *   component     the board, 1 to N
+ *   block         the block, below B */
+uint64_t hyl_letter(const uint8_t *rec, size_t rec_len, uint32_t component, uint32_t block);
+
+#ifdef __cplusplus
+}
+#endif
+
+#endif
