@@ -1,0 +1,466 @@
+/* Two policies over the engine, each with a flat memory beside it that every answered load must agree with: one that takes turns and works, and a
+ * foolish one. hosts/rust/examples/policy.rs is the same program in Rust and prints the same lines for the same seed. */
+#include <errno.h>
+#include <inttypes.h>
+#include <stdbool.h>
+#include <stdio.h>
+#include <stdlib.h>
+#include <string.h>
+#include "hyaloneth.h"
+
+#define ROUNDS 3000
+#define FOOLISH_RACKS 120
+#define FOOLISH_STEPS 2000
+/* The foolish policy hands in lists of so many steps, with room for fewer replies. */
+#define LIST_STEPS 64
+#define REPLIES 24
+
+/* A damaged record may be one byte longer. */
+#define STEP_ROOM (HYL_WIRE_LONGEST + 1)
+
+/* Numbers that a seed decides. */
+static uint64_t dice;
+
+static void seed_dice(uint64_t seed)
+{
+    dice = seed * UINT64_C(0x9e3779b97f4a7c15) | 1;
+}
+
+/* A number below `count`. */
+static uint32_t draw(uint32_t count)
+{
+    dice ^= dice << 13;
+    dice ^= dice >> 7;
+    dice ^= dice << 17;
+    return (uint32_t)(dice >> 32) % count;
+}
+
+/* A number mostly below `count`, now and then too large for the rack or for its field. */
+static uint32_t mostly_below(uint32_t count)
+{
+    return draw(20) == 0 ? draw(300) : draw(count);
+}
+
+/* The record under the policy, of exactly the length it takes, so that a sanitizer sees any place past it. */
+static uint8_t *rec;
+static size_t rec_len;
+
+static bool open_rack(uint32_t boards, uint32_t blocks, uint32_t tokens)
+{
+    uint64_t len = hyl_record_len(blocks);
+
+    if (HYL_KIND(len) != HYL_DONE)
+        return false;
+    rec_len = HYL_COUNT(len);
+    rec = malloc(rec_len);
+    return rec != NULL && HYL_KIND(hyl_open(rec, rec_len, boards, blocks, tokens)) == HYL_DONE;
+}
+
+static void close_rack(void)
+{
+    free(rec);
+    rec = NULL;
+}
+
+/* The record's figures, by docs/RECORD.md. */
+static uint32_t in_flight(void)
+{
+    return rec[3];
+}
+
+static const uint8_t *message(uint32_t position)
+{
+    return rec + 4 + 38 * position;
+}
+
+static const uint8_t *block_at(uint32_t block)
+{
+    return rec + 2436 + 592 * block;
+}
+
+static uint32_t plain(uint32_t component, uint32_t block)
+{
+    return block_at(block)[35 * component];
+}
+
+static uint32_t held(uint32_t component, uint32_t block)
+{
+    return plain(component, block) + block_at(block)[35 * component + 1];
+}
+
+static bool valid(uint32_t component, uint32_t block)
+{
+    return block_at(block)[35 * component + 2] != 0;
+}
+
+/* The active board: the lowest of the waiting ones, 0 for none. */
+static uint32_t active(uint32_t block)
+{
+    uint32_t waiting = (uint32_t)block_at(block)[560] << 8 | block_at(block)[561];
+    uint32_t board;
+
+    for (board = 1; board <= rec[0]; board++)
+        if (waiting >> board & 1)
+            return board;
+    return 0;
+}
+
+/* A memory without components, tokens or messages: what the loads of a coherent rack give. */
+static struct {
+    uint32_t words[32][8];
+    unsigned loads, stores, wrong;
+} memory;
+
+/* The flat memory takes an accepted step. Its numbers are on the rack, since it was accepted. */
+static void take(const uint8_t *step, size_t step_len, uint64_t result)
+{
+    uint32_t n[HYL_WIRE_PLACES];
+
+    if (HYL_KIND(hyl_wire_read(step, step_len, n, HYL_WIRE_PLACES)) != HYL_DONE) {
+        memory.wrong++;
+        printf("WRONG: a torn step was accepted\n");
+    } else if (n[0] == HYL_LOAD) {
+        memory.loads++;
+        if (HYL_KIND(result) != HYL_WORD_GIVEN || memory.words[n[HYL_BLOCK]][n[HYL_WORD]] != HYL_WORD_OF(result)) {
+            memory.wrong++;
+            printf("WRONG: load %" PRIu32 " block %" PRIu32 " word %" PRIu32 " gave 0x%" PRIx32 "\n", n[HYL_COMPONENT], n[HYL_BLOCK], n[HYL_WORD],
+                   HYL_WORD_OF(result));
+        }
+    } else if (n[0] == HYL_STORE) {
+        memory.stores++;
+        memory.words[n[HYL_BLOCK]][n[HYL_WORD]] = n[HYL_VALUE];
+    }
+}
+
+/* The policy that takes turns: its steps, and its raises refused because the board waits already, or because it is barred. */
+static unsigned steps, waiting, barred;
+
+/* Hands in the step that was written to `step` with this result. Gives the refusal's number, 0 where it was accepted. */
+static uint32_t make(const uint8_t *step, uint64_t written)
+{
+    uint64_t result;
+
+    steps++;
+    if (HYL_KIND(written) != HYL_DONE)
+        return HYL_REFUSAL(written);
+    result = hyl_step(rec, rec_len, step, HYL_COUNT(written));
+    if (HYL_KIND(result) != HYL_REFUSED)
+        take(step, HYL_COUNT(written), result);
+    return HYL_REFUSAL(result);
+}
+
+/* Makes a step that must be accepted. */
+static void must(const uint8_t *step, uint64_t written)
+{
+    uint32_t refusal = make(step, written);
+
+    if (refusal != 0) {
+        printf("a step that must be accepted was refused %" PRIu32 "\n", refusal);
+        exit(1);
+    }
+}
+
+/* Raises a claim, if the board may have one now. */
+static void raise_claim(uint32_t board, uint32_t block)
+{
+    uint8_t step[STEP_ROOM];
+    uint64_t written = hyl_wire_write_raise(step, sizeof step, 0, board, block);
+    uint32_t refusal = make(step, written);
+
+    if (refusal == HYL_WAITING)
+        waiting++;
+    else if (refusal == HYL_BARRED)
+        barred++;
+    else if (refusal != 0) {
+        printf("a step that must be accepted was refused %" PRIu32 "\n", refusal);
+        exit(1);
+    }
+}
+
+/* Delivers all messages, in any order: the mesh keeps none. */
+static void deliver_all(void)
+{
+    uint8_t step[STEP_ROOM];
+
+    while (in_flight() > 0)
+        must(step, hyl_wire_write_deliver(step, sizeof step, 0, draw(in_flight())));
+}
+
+/* Brings all tokens of a block to its active board: what is in flight arrives first, then every other holder forwards. */
+static void fill(uint32_t board, uint32_t block)
+{
+    uint8_t step[STEP_ROOM];
+    uint32_t component;
+
+    deliver_all();
+    for (component = 0; component <= rec[0]; component++)
+        if (component != board && held(component, block) > 0)
+            must(step, hyl_wire_write_forward(step, sizeof step, 0, component, block));
+    deliver_all();
+}
+
+/* Some boards claim a block; each gets it whole, stores, loads and lowers. */
+static void write_turn(uint32_t block)
+{
+    uint8_t step[STEP_ROOM];
+    uint32_t boards = rec[0], board, word, times;
+
+    for (times = draw(3) + 1; times > 0; times--)
+        raise_claim(1 + draw(boards), block);
+    while ((board = active(block)) != 0) {
+        fill(board, block);
+        for (times = draw(3) + 1; times > 0; times--) {
+            word = draw(8);
+            must(step, hyl_wire_write_store(step, sizeof step, 0, board, block, word, draw(1000000007)));
+        }
+        must(step, hyl_wire_write_load(step, sizeof step, 0, board, block, draw(8)));
+        /* A latecomer may displace the active board, which lowers all the same. */
+        if (draw(4) == 0)
+            raise_claim(1 + draw(boards), block);
+        must(step, hyl_wire_write_lower(step, sizeof step, 0, board, block));
+    }
+}
+
+/* The component other than the reader, with data, that has the most plain tokens; UINT32_MAX for none. */
+static uint32_t source(uint32_t reader, uint32_t block)
+{
+    uint32_t component, best = UINT32_MAX;
+
+    for (component = 0; component <= rec[0]; component++)
+        if (component != reader && valid(component, block) && (best == UINT32_MAX || plain(component, block) > plain(best, block)))
+            best = component;
+    return best;
+}
+
+/* A board reads an unclaimed block: a holder with data sends it a token with the words. Some messages are left in flight for later. */
+static void read_turn(uint32_t block)
+{
+    uint8_t step[STEP_ROOM];
+    uint32_t reader = 1 + draw(rec[0]), from, times;
+
+    if (!valid(reader, block)) {
+        if (source(reader, block) == UINT32_MAX)
+            deliver_all();
+        /* The deliveries may have served the reader. */
+        from = source(reader, block);
+        if (!valid(reader, block) && from != UINT32_MAX) {
+            bool has_plain = plain(from, block) > 0;
+            must(step, hyl_wire_write_send(step, sizeof step, 0, from, block, reader, has_plain, !has_plain, 1));
+        }
+    }
+    if (in_flight() > 0 && in_flight() < 16 && draw(3) == 0)
+        return;
+    deliver_all();
+    for (times = draw(3) + 1; times > 0; times--)
+        must(step, hyl_wire_write_load(step, sizeof step, 0, reader, block, draw(8)));
+}
+
+/* Boards take turns; no step but a raise is ever refused. Gives the number of wrong loads. */
+static unsigned take_turns(uint64_t seed, uint32_t boards, uint32_t blocks, uint32_t tokens)
+{
+    int round;
+
+    if (!open_rack(boards, blocks, tokens))
+        return 1;
+    memset(&memory, 0, sizeof memory);
+    steps = waiting = barred = 0;
+    seed_dice(seed);
+    for (round = 0; round < ROUNDS; round++) {
+        uint32_t block = draw(blocks);
+        if (draw(2) == 0)
+            write_turn(block);
+        else
+            read_turn(block);
+    }
+    close_rack();
+    printf("turns: boards %" PRIu32 ", blocks %" PRIu32 ", tokens %" PRIu32
+           ": %u steps, %u stores, %u loads; raises refused: %u waiting, %u barred\n",
+           boards, blocks, tokens, steps, memory.stores, memory.loads, waiting, barred);
+    return memory.wrong;
+}
+
+/* Writes a random step's record, sometimes damaged, and gives its length; a refusal's number goes to `refused` where the numbers are no step. */
+static size_t foolish_step(uint32_t boards, uint32_t blocks, uint32_t tokens, bool lazy, uint8_t step[STEP_ROOM], uint32_t *refused)
+{
+    uint32_t kind = draw(12), component, block, a, b, c, d, len;
+    uint64_t written;
+
+    if (lazy && (kind >= 9 || (kind >= 6 && draw(64) != 0)))
+        kind = 3;
+    component = mostly_below(boards + 1);
+    block = mostly_below(blocks);
+    switch (kind) {
+    case 0:
+    case 1:
+        written = hyl_wire_write_load(step, STEP_ROOM, 0, component, block, mostly_below(8));
+        break;
+    case 2:
+        a = mostly_below(8);
+        b = draw(1000000007);
+        written = hyl_wire_write_store(step, STEP_ROOM, 0, component, block, a, b);
+        break;
+    case 3:
+    case 4:
+    case 5:
+        a = mostly_below(boards + 1);
+        b = !lazy && draw(4) == 0 ? draw(tokens + 2) : draw(3);
+        c = draw(2);
+        d = draw(2);
+        written = hyl_wire_write_send(step, STEP_ROOM, 0, component, block, a, b, c, d);
+        break;
+    case 6:
+    case 7:
+    case 8:
+        a = draw(4) == 0 ? draw(300) : draw(2);
+        written = hyl_wire_write_deliver(step, STEP_ROOM, 0, a);
+        break;
+    case 9:
+        written = hyl_wire_write_raise(step, STEP_ROOM, 0, component, block);
+        break;
+    case 10:
+        written = hyl_wire_write_lower(step, STEP_ROOM, 0, component, block);
+        break;
+    default:
+        written = hyl_wire_write_forward(step, STEP_ROOM, 0, component, block);
+        break;
+    }
+    *refused = HYL_REFUSAL(written);
+    len = HYL_COUNT(written);
+    if (len > 0 && !lazy && draw(30) == 0) {
+        switch (draw(3)) {
+        case 0:
+            a = draw(len);
+            step[a] = (uint8_t)(step[a] ^ 1u << draw(8));
+            break;
+        case 1:
+            len = draw(len);
+            break;
+        default:
+            step[len++] = (uint8_t)draw(256);
+            break;
+        }
+    }
+    return len;
+}
+
+/* How long the step record at the front of a list is, or the list where it ends before. */
+static size_t record_len(const uint8_t *list, size_t left)
+{
+    size_t len;
+
+    if (left < 3)
+        return left;
+    len = 3 + ((size_t)list[1] << 8 | list[2]);
+    return len < left ? len : left;
+}
+
+/* How many blocks have not T tokens, or not one owner. */
+static unsigned wrong_totals(void)
+{
+    unsigned wrong = 0;
+    uint32_t block, component, i;
+
+    for (block = 0; block < rec[1]; block++) {
+        uint32_t tokens = 0, owners = 0;
+        for (component = 0; component <= rec[0]; component++) {
+            tokens += held(component, block);
+            owners += held(component, block) - plain(component, block);
+        }
+        for (i = 0; i < in_flight(); i++)
+            if (message(i)[2] == block) {
+                tokens += (uint32_t)message(i)[3] + message(i)[4];
+                owners += message(i)[4];
+            }
+        if (tokens != rec[2] || owners != 1) {
+            wrong++;
+            printf("WRONG: block %" PRIu32 " has %" PRIu32 " tokens, %" PRIu32 " owners\n", block, tokens, owners);
+        }
+    }
+    return wrong;
+}
+
+/* Hands in random steps, sound and unsound ones, in lists. Gives the number of wrong loads. */
+static unsigned be_foolish(uint64_t seed)
+{
+    static const char *const word[] = {
+        "", "torn", "unsound", "off rack", "home", "no token", "no data", "short", "self", "claimed", "empty", "not held", "bare owner",
+        "mesh full", "no message", "waiting", "barred", "not waiting", "unclaimed", "size", "short buffer",
+    };
+    static uint8_t list[LIST_STEPS * STEP_ROOM];
+    unsigned refused[21] = {0};
+    unsigned accepted = 0, loads = 0, stores = 0, wrong = 0, number;
+    int rack, lists, i;
+
+    seed_dice(seed);
+    for (rack = 0; rack < FOOLISH_RACKS; rack++) {
+        /* A lazy rack delivers little and claims nothing, so that its mesh becomes full. */
+        bool lazy = rack % 8 == 0;
+        uint32_t boards = 1 + draw(4);
+        uint32_t blocks = lazy ? 2 : 1 + draw(2);
+        uint32_t tokens = lazy ? 64 : boards + draw(3);
+
+        if (!open_rack(boards, blocks, tokens))
+            return 1;
+        memset(&memory, 0, sizeof memory);
+        for (lists = 0; lists < FOOLISH_STEPS / LIST_STEPS; lists++) {
+            uint64_t replies[REPLIES];
+            size_t len = 0, at = 0, cut = 0, made, k;
+
+            for (i = 0; i < LIST_STEPS; i++) {
+                uint32_t refusal;
+                len += foolish_step(boards, blocks, tokens, lazy, list + len, &refusal);
+                if (refusal != 0)
+                    refused[refusal]++;
+            }
+            while (at < len) {
+                made = hyl_run(rec, rec_len, list, len, &at, replies, REPLIES);
+                for (k = 0; k < made; k++) {
+                    size_t n = record_len(list + cut, len - cut);
+                    if (HYL_KIND(replies[k]) == HYL_REFUSED) {
+                        refused[HYL_REFUSAL(replies[k])]++;
+                    } else {
+                        accepted++;
+                        take(list + cut, n, replies[k]);
+                    }
+                    cut += n;
+                }
+            }
+        }
+        wrong += memory.wrong + wrong_totals();
+        loads += memory.loads;
+        stores += memory.stores;
+        close_rack();
+    }
+    printf("foolish: %d racks: %u steps accepted, of them %u stores, %u loads; refused:\n", FOOLISH_RACKS, accepted, stores, loads);
+    for (number = 1; number <= 20; number++)
+        if (refused[number] > 0)
+            printf("  %2u %-12s %u\n", number, word[number], refused[number]);
+    return wrong;
+}
+
+int main(int argc, char **argv)
+{
+    static const uint32_t sizes[][3] = {{1, 1, 1}, {4, 6, 5}, {15, 32, 15}, {15, 4, 64}};
+    uint64_t seed = 1;
+    unsigned wrong = 0;
+    size_t i;
+
+    if (argc > 1) {
+        char *end;
+        errno = 0;
+        seed = strtoull(argv[1], &end, 10);
+        if (argv[1][0] < '0' || argv[1][0] > '9' || *end != '\0' || errno != 0) {
+            fprintf(stderr, "usage: policy [SEED], a decimal number\n");
+            return 2;
+        }
+    }
+    for (i = 0; i < sizeof sizes / sizeof *sizes; i++)
+        wrong += take_turns(seed, sizes[i][0], sizes[i][1], sizes[i][2]);
+    wrong += be_foolish(seed);
+    if (wrong != 0) {
+        printf("%u differences\n", wrong);
+        return 1;
+    }
+    printf("every answered load agrees with the flat memory\n");
+    return 0;
+}

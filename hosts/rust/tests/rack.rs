@@ -1,0 +1,434 @@
+//! The examples of document 01 and the edges of the wrapper, over the proved archives.
+
+use hyaloneth::Refusal::*;
+use hyaloneth::Step::*;
+use hyaloneth::{Answer, Letter, Record, Refusal, Reply, Step, View};
+
+/// A rack that owns its buffer; unless said, N = 2, B = 1, T = 3.
+struct Rack(Vec<u8>);
+
+impl Rack {
+    fn new() -> Rack {
+        Rack::of(2, 1, 3)
+    }
+
+    fn of(boards: u32, blocks: u32, tokens: u32) -> Rack {
+        let mut buffer = vec![0xa5; Record::len_for(blocks).unwrap()];
+        Record::open(&mut buffer, boards, blocks, tokens).unwrap();
+        Rack(buffer)
+    }
+
+    fn record(&mut self) -> Record<'_> {
+        Record::over(&mut self.0)
+    }
+
+    fn step(&mut self, step: Step) -> Result<Reply, Refusal> {
+        self.record().step(&step)
+    }
+
+    fn done(&mut self, step: Step) {
+        assert_eq!(self.step(step), Ok(Reply::Done), "{step}");
+    }
+
+    /// The step is refused with this, and no byte of the buffer changes.
+    fn refused(&mut self, step: Step, refusal: Refusal) {
+        let before = self.0.clone();
+        assert_eq!(self.step(step), Err(refusal), "{step}");
+        assert_eq!(self.0, before, "{step}");
+    }
+
+    fn letter(&mut self, board: u32) -> Result<Letter, Refusal> {
+        self.record().letter(board, 0)
+    }
+}
+
+fn load(component: u32) -> Step {
+    Load { component, block: 0, word: 0 }
+}
+
+fn store(component: u32) -> Step {
+    Store { component, block: 0, word: 0, value: 1 }
+}
+
+fn send(component: u32, target: u32, plain: u32, owner: bool, data: bool) -> Step {
+    Send { component, block: 0, target, plain, owner, data }
+}
+
+fn raise(component: u32) -> Step {
+    Raise { component, block: 0 }
+}
+
+fn lower(component: u32) -> Step {
+    Lower { component, block: 0 }
+}
+
+fn forward(component: u32) -> Step {
+    Forward { component, block: 0 }
+}
+
+const OLDEST: Step = Deliver { position: 0 };
+
+/// W2: board 1 has the whole block.
+fn w2() -> Rack {
+    let mut rack = Rack::new();
+    rack.done(send(0, 1, 2, true, true));
+    rack.done(OLDEST);
+    rack
+}
+
+#[test]
+fn w1_a_load_needs_a_token() {
+    Rack::new().refused(load(1), NoToken);
+}
+
+#[test]
+fn w2_to_w4_stores_need_all_tokens_and_loads_data() {
+    let mut rack = w2();
+    rack.done(store(1));
+    assert_eq!(rack.letter(1), Ok(Letter::Modified));
+
+    rack.done(send(1, 2, 1, false, false));
+    rack.done(OLDEST);
+    rack.refused(load(2), NoData);
+    assert_eq!(rack.letter(2), Ok(Letter::Invalid));
+
+    rack.refused(store(1), Short);
+    assert_eq!(rack.letter(1), Ok(Letter::Owned));
+    assert_eq!(rack.step(load(1)), Ok(Reply::Word(1)));
+}
+
+#[test]
+fn w5_to_w7_sends_that_are_refused() {
+    let mut rack = Rack::new();
+    rack.refused(send(0, 1, 0, true, false), BareOwner);
+    rack.refused(send(0, 1, 3, false, false), NotHeld);
+    rack.refused(send(0, 1, 0, false, false), Empty);
+}
+
+#[test]
+fn w8_the_mesh_carries_64_messages() {
+    let mut rack = Rack::of(2, 2, 64);
+    for _ in 0..63 {
+        rack.done(send(0, 1, 1, false, false));
+    }
+    rack.done(send(0, 1, 0, true, true));
+    let other = Send { component: 0, block: 1, target: 1, plain: 1, owner: false, data: false };
+    rack.refused(other, MeshFull);
+    rack.done(OLDEST);
+    rack.done(other);
+}
+
+#[test]
+fn w9_the_active_board_is_the_lowest() {
+    let mut rack = Rack::new();
+    rack.done(raise(2));
+    rack.done(raise(1));
+    rack.done(forward(0));
+    let record = rack.record();
+    let view = record.view().unwrap();
+    assert_eq!(view.messages().map(|m| m.target).collect::<Vec<_>>(), [1]);
+    assert_eq!(view.active(0), Some(1));
+}
+
+#[test]
+fn w10_nobody_is_passed_twice() {
+    let mut rack = Rack::new();
+    rack.done(raise(1));
+    rack.done(raise(2));
+    rack.done(lower(1));
+    rack.refused(raise(1), Barred);
+    assert_eq!(rack.record().view().unwrap().barring(1, 0).unwrap().to_string(), "{2}");
+    rack.done(lower(2));
+    rack.done(raise(1));
+}
+
+#[test]
+fn w11_tokens_are_at_least_the_boards() {
+    let mut buffer = [0; Record::LONGEST];
+    assert_eq!(Record::open(&mut buffer, 2, 1, 1).err(), Some(Size));
+    assert!(Record::open(&mut buffer, 2, 1, 2).is_ok());
+}
+
+#[test]
+fn the_listing_of_program_rackrun() {
+    let text = "12 00 18 01 00 01 00 02 00 01 00 05 00 01 01 06 00 01 02 07 00 01 01 08 00 01 01 \
+                13 00 04 09 00 01 00 \
+                11 00 13 01 00 01 01 02 00 01 00 03 00 01 00 04 00 04 00 00 00 2A \
+                10 00 0C 01 00 01 01 02 00 01 00 03 00 01 00 \
+                10 00 0C 01 00 01 02 02 00 01 00 03 00 01 00";
+    let list: Vec<u8> =
+        text.split_whitespace().map(|b| u8::from_str_radix(b, 16).unwrap()).collect();
+    let mut rack = Rack::new();
+    let mut lines = vec!["0 ok".to_string()];
+    rack.record().run(&list, |reply| {
+        let reply = match reply {
+            Ok(Reply::Done) => "ok".to_string(),
+            Ok(Reply::Word(word)) => format!("v{word:08x}"),
+            Err(refusal) => format!("r{}", refusal.number()),
+        };
+        lines.push(format!("{} {reply}", lines.len()));
+    });
+    assert_eq!(lines, ["0 ok", "1 ok", "2 ok", "3 ok", "4 v0000002a", "5 r5"]);
+}
+
+#[test]
+fn the_other_refusals() {
+    let mut rack = Rack::new();
+    rack.refused(load(3), OffRack);
+    rack.refused(Load { component: 1, block: 1, word: 0 }, OffRack);
+    rack.refused(Load { component: 1, block: 0, word: 8 }, OffRack);
+    rack.refused(send(0, 3, 1, false, false), OffRack);
+    for step in [load(0), store(0), raise(0), lower(0)] {
+        rack.refused(step, Home);
+    }
+    rack.refused(send(0, 0, 1, false, false), SelfTarget);
+    rack.refused(send(1, 2, 0, true, true), NotHeld);
+    rack.refused(send(0, 1, 255, false, false), NotHeld);
+    rack.refused(OLDEST, NoMessage);
+    rack.refused(lower(1), NotWaiting);
+    rack.refused(forward(0), Unclaimed);
+
+    rack.done(raise(1));
+    rack.refused(raise(1), Waiting);
+    rack.refused(forward(1), SelfTarget);
+    rack.refused(forward(2), NoToken);
+    rack.refused(send(0, 1, 1, false, false), Claimed);
+    rack.done(forward(0));
+    rack.refused(Deliver { position: 1 }, NoMessage);
+    rack.done(OLDEST);
+    rack.refused(send(1, 2, 1, false, false), Claimed);
+
+    let mut rack = w2();
+    rack.done(send(1, 2, 1, false, false));
+    rack.done(OLDEST);
+    rack.refused(send(2, 1, 1, false, true), NoData);
+}
+
+#[test]
+fn a_delivery_keeps_the_order_of_the_rest() {
+    let mut rack = Rack::of(2, 1, 64);
+    for plain in 1..=5 {
+        rack.done(send(0, 1, plain, false, false));
+    }
+    for (position, rest) in [(1, &[1, 3, 4, 5][..]), (3, &[1, 3, 4]), (0, &[3, 4])] {
+        rack.done(Deliver { position });
+        let record = rack.record();
+        assert!(record.view().unwrap().messages().map(|m| m.plain).eq(rest.iter().copied()));
+    }
+    assert_eq!(rack.record().view().unwrap().cell(1, 0).unwrap().plain, 2 + 5 + 1);
+}
+
+#[test]
+fn numbers_outside_their_field_are_never_cut() {
+    let mut rack = w2();
+    rack.done(raise(2));
+    // Cut to a byte, each of these would be a step that the rack takes.
+    for step in [
+        load(257),
+        Load { component: 1, block: 256, word: 0 },
+        Load { component: 1, block: 0, word: 256 },
+        store(257),
+        send(1, 258, 1, false, false),
+        send(1, 2, 257, false, false),
+        Deliver { position: 256 },
+        raise(257),
+        lower(258),
+        forward(257),
+        forward(u32::MAX),
+    ] {
+        assert_eq!(step.to_bytes(), Err(Torn), "{step}");
+        rack.refused(step, Torn);
+    }
+    assert_eq!(rack.letter(257), Err(OffRack));
+    assert_eq!(rack.record().letter(1, 256), Err(OffRack));
+
+    let mut buffer = [0xa5; Record::LONGEST];
+    for (boards, blocks, tokens) in
+        [(0, 1, 3), (16, 1, 16), (2, 0, 3), (2, 33, 3), (2, 1, 65), (258, 1, 259), (2, 257, 3)]
+    {
+        assert_eq!(Record::open(&mut buffer, boards, blocks, tokens).err(), Some(Size));
+    }
+    assert_eq!(Record::open(&mut buffer, 2, 1, 259).err(), Some(Size));
+    assert_eq!(Record::len_for(0), Err(Size));
+    assert_eq!(Record::len_for(257), Err(Size));
+    assert!(buffer.iter().all(|&byte| byte == 0xa5));
+}
+
+#[test]
+fn every_step_comes_back_from_its_bytes() {
+    for step in [
+        Load { component: 255, block: 31, word: 7 },
+        Store { component: 1, block: 2, word: 3, value: u32::MAX },
+        send(0, 255, 255, true, false),
+        send(15, 0, 0, false, true),
+        Deliver { position: 255 },
+        raise(9),
+        lower(10),
+        forward(11),
+    ] {
+        let bytes = step.to_bytes().unwrap();
+        assert_eq!(Step::from_bytes(&bytes), Ok(step));
+        assert!(bytes.len() <= Step::LONGEST);
+        for end in 0..bytes.len() {
+            assert_eq!(Step::from_bytes(&bytes[..end]), Err(Torn));
+        }
+    }
+    assert_eq!(send(0, 1, 2, true, true).to_bytes().unwrap().len(), Step::LONGEST);
+}
+
+#[test]
+fn buffers_that_are_too_short() {
+    for blocks in 1..=32 {
+        let len = Record::len_for(blocks).unwrap();
+        let mut buffer = vec![0xa5; len];
+        assert_eq!(Record::open(&mut buffer[1..], 2, blocks, 3).err(), Some(ShortBuffer));
+        assert!(buffer.iter().all(|&byte| byte == 0xa5));
+        assert!(Record::open(&mut buffer, 2, blocks, 3).is_ok());
+        assert!(View::of(&buffer).is_ok());
+        buffer.pop();
+        assert_eq!(View::of(&buffer).err(), Some(Unsound));
+    }
+    for len in 0..8 {
+        let mut buffer = vec![2; len];
+        let mut rack = Record::over(&mut buffer);
+        assert_eq!(rack.step(&OLDEST), Err(Unsound));
+        assert_eq!(rack.step_bytes(&[]), Err(Torn));
+        assert_eq!(rack.letter(1, 0), Err(Unsound));
+        assert_eq!(rack.view().err(), Some(Unsound));
+    }
+    assert_eq!(Record::open(&mut [], 2, 1, 3).err(), Some(ShortBuffer));
+    assert_eq!(OLDEST.write(&mut [], 0), Err(ShortBuffer));
+    assert_eq!(OLDEST.write(&mut [0; 27], usize::MAX), Err(ShortBuffer));
+    assert_eq!(Step::from_bytes(&[]), Err(Torn));
+}
+
+#[test]
+fn lists_without_steps_or_room() {
+    let mut rack = Rack::new();
+    let mut record = rack.record();
+    record.run(&[], |_| panic!("a step of nothing"));
+
+    let list = raise(1).to_bytes().unwrap();
+    let mut at = 0;
+    assert_eq!(record.run_some(&list, &mut at, &mut []), 0);
+    assert_eq!(at, 0);
+    let mut answers = [Answer::default()];
+    for past in [list.len(), list.len() + 1, usize::MAX] {
+        at = past;
+        assert_eq!(record.run_some(&list, &mut at, &mut answers), 0);
+        assert_eq!(at, past);
+    }
+    assert_eq!(record.view().unwrap().active(0), None);
+}
+
+#[test]
+fn a_list_gives_what_its_steps_give_singly() {
+    let mut list = Vec::new();
+    for i in 0..200 {
+        let step = match i % 5 {
+            0 => raise(1 + i % 2),
+            1 => forward(i % 3),
+            2 => OLDEST,
+            3 => store(1 + i % 2),
+            _ => lower(1 + i / 7 % 2),
+        };
+        list.extend(step.to_bytes().unwrap());
+    }
+    list.extend([0x12, 0x00]);
+    let (mut whole, mut single) = (Rack::new(), Rack::new());
+    let mut replies = Vec::new();
+    whole.record().run(&list, |reply| replies.push(reply));
+    let singly: Vec<_> = hyaloneth::script::records(&list)
+        .map(|record| single.record().step_bytes(record))
+        .collect();
+    assert_eq!(replies, singly);
+    assert_eq!(replies.len(), 201);
+    assert_eq!(replies.last(), Some(&Err(Torn)));
+    assert!(replies.iter().filter(|reply| reply.is_ok()).count() > 40);
+    assert_eq!(whole.0, single.0);
+}
+
+#[test]
+fn bytes_past_the_record_stay() {
+    let len = Record::len_for(1).unwrap();
+    let mut buffer = vec![0xa5; len + 100];
+    let mut rack = Record::open(&mut buffer, 2, 1, 3).unwrap();
+    rack.step(&send(0, 1, 2, true, true)).unwrap();
+    rack.step(&OLDEST).unwrap();
+    rack.step(&store(1)).unwrap();
+    assert!(buffer[len..].iter().all(|&byte| byte == 0xa5));
+}
+
+#[test]
+fn a_damaged_record_is_refused() {
+    let rack = w2();
+    // Sizes, count in flight, home's plain count, owner and valid marks, a claim of home.
+    for at in [0, 1, 2, 3, 2436, 2437, 2438, 2436 + 561] {
+        let mut damaged = Rack(rack.0.clone());
+        damaged.0[at] = 0x7f;
+        damaged.refused(load(1), Unsound);
+        assert_eq!(damaged.letter(1), Err(Unsound));
+    }
+}
+
+#[test]
+fn the_view_reads_the_written_layout() {
+    let mut rack = Rack::of(3, 2, 9);
+    let block = 1;
+    rack.done(Send { component: 0, block, target: 3, plain: 8, owner: true, data: true });
+    rack.done(OLDEST);
+    rack.done(Store { component: 3, block, word: 7, value: 0x0102_0304 });
+    rack.done(Send { component: 3, block, target: 2, plain: 5, owner: false, data: true });
+    let record = rack.record();
+    let view = record.view().unwrap();
+    assert_eq!((view.boards(), view.blocks(), view.tokens()), (3, 2, 9));
+    let cell = view.cell(3, block).unwrap();
+    assert_eq!((cell.plain, cell.owner, cell.valid, cell.held()), (3, true, true, 4));
+    assert_eq!(cell.words, [0, 0, 0, 0, 0, 0, 0, 0x0102_0304]);
+    assert_eq!(view.letter(3, block), Some(Letter::Owned));
+    assert_eq!(view.letter(0, block), None);
+    let message = view.messages().next().unwrap();
+    assert_eq!((message.sender, message.target, message.block, message.plain), (3, 2, 1, 5));
+    assert_eq!((message.owner, message.data, message.words), (false, true, cell.words));
+    assert_eq!(view.cell(4, 0), None);
+    assert_eq!(view.cell(0, 2), None);
+    assert_eq!(view.waiting(2), None);
+    assert_eq!(view.barring(0, 0), None);
+    assert_eq!(view.barring(4, 0), None);
+    assert!(view.barring(3, 0).unwrap().is_empty());
+}
+
+#[test]
+fn refusals_have_their_numbers_and_words() {
+    let words = [
+        "torn",
+        "unsound",
+        "off rack",
+        "home",
+        "no token",
+        "no data",
+        "short",
+        "self",
+        "claimed",
+        "empty",
+        "not held",
+        "bare owner",
+        "mesh full",
+        "no message",
+        "waiting",
+        "barred",
+        "not waiting",
+        "unclaimed",
+        "size",
+        "short buffer",
+    ];
+    for (i, refusal) in Refusal::ALL.into_iter().enumerate() {
+        assert_eq!(refusal.number(), i as u32 + 1);
+        assert_eq!(refusal.word(), words[i]);
+        assert_eq!(Refusal::from_number(refusal.number()), Some(refusal));
+    }
+    assert_eq!(Refusal::from_number(0), None);
+    assert_eq!(Refusal::from_number(21), None);
+    let error: Box<dyn std::error::Error> = Box::new(NoToken);
+    assert_eq!(error.to_string(), "refused 5: no token");
+}
