@@ -1,5 +1,5 @@
 -- An opening: its check, and that an accepted one leaves a sound record of the fresh rack, the buffer's length and all behind the record unchanged.
-use Prim.Native.Nat.{ℕ, suc, _^_, _≤_, _<_}
+use Prim.Native.Nat.{ℕ, _≤_, _<_}
 use native.Mathlib.Omega.{arith}
 use mathlib.Core.Path.{_≡_, refl, ap, _∙_, subst}
 use mathlib.Core.Logic.{⊎-elim}
@@ -8,7 +8,6 @@ use mathlib.Core.List.{List}
 use borrow.Author.Tests.{leb-true, le-leb, lt-ltb, le-ltb}
 use lib.ListN.{length, drop, length-replicate}
 use Rattle.base.proofs.Tests.{either, lt-or-le, and-l, and-r, and-of, not-of-false, not-of-true}
-use Rattle.base.proofs.Folds.{all-replicate}
 use Rattle.refusals.specs.declared.Refusal.{Refusal}
 use Rattle.refusals.specs.declared.Refusal.the-variants.{Size, ShortBuffer}
 use Rattle.refusals.specs.declared.Check.{Check}
@@ -17,15 +16,14 @@ use Rattle.refusals.proofs.Table.{stops, goes}
 use Rattle.layout.specs.Number.{Bytes}
 use Rattle.protocol.specs.declared.Answer.the-variants.{Done}
 use Rattle.protocol.specs.declared.Reply.the-variants.{Accepted, Refused}
-use Rattle.protocol.specs.Rack.{noCell, freshBlock, fresh}
+use Rattle.protocol.specs.Rack.{freshBlock, fresh}
 use Rattle.protocol.specs.Sound.{sizes}
-use Rattle.protocol.proofs.Fresh.{opened-sound}
+use Rattle.protocol.proofs.Fresh.{fresh-sound, opened-sound, fresh-fits as words-fit}
+use Rattle.record.proofs.Holdable.{holdable}
 use Rattle.record.specs.Record.{recordLength, get, put}
 use Rattle.record.specs.Sound.{soundBytes, wellFormed}
-use Rattle.record.proofs.Parts.{CellFits, BlockFits}
 use Rattle.record.proofs.Record.{Fits, get-put, put-keeps, put-formed, put-behind, well-formed}
 use Rattle.rack.specs.Entries.{openCheck, openTold, openAfter, openReply, opened}
-use Rattle.rack.proofs.FreshBytes.{no-cell-fits, full-fits}
 
 -- ---- the check
 
@@ -93,17 +91,7 @@ module _ (n b t l : ℕ) where
 -- ---- the record
 
 pub fresh-fits : (n b t l : ℕ) → Sized n b t l → Fits (fresh n b t)
-fresh-fits n b t l z =
-    record {
-      boards = omega (arith, z .boards);
-      blocks = rw length-replicate (z .blocks);
-      tokens = z .tokens;
-      messages = omega arith;
-      blocks-fit =
-          all-replicate (BlockFits n) b (freshBlock n t)
-          ((ap suc (length-replicate n noCell), (full-fits n t (omega (arith, z .tokens)), all-replicate CellFits n noCell no-cell-fits)), (length-replicate (suc n) 0, all-replicate (λ (v : ℕ). v < 256 ^ 2) (suc n) 0 (omega arith)));
-      mesh-fits = tt;
-    }
+fresh-fits n b t l z = holdable (fresh n b t) (fresh-sound n b t (z .range)) (words-fit n b t)
 
 module _ (n b t : ℕ) (s : List ℕ) where
   -- a refused opening leaves the buffer
