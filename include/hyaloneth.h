@@ -77,7 +77,8 @@ uint64_t hyl_step(uint8_t *rec, size_t rec_len, const uint8_t *step, size_t step
  * `replies` is full.
  *   rec, rec_len          the buffer that holds the record
  *   list, list_len        the step records
- *   at                    where in the list to start; afterwards, where the next call goes on (list_len at the end)
+ *   at                    where in the list to start; afterwards, where the next call goes on (list_len at the end). Where it is past the end of
+ *                         the list, no step is made and it stays
  *   replies, replies_len  gets one result for each step, in order; the places behind them stay as they are
  * Gives the number of steps made. */
 size_t hyl_run(uint8_t *rec, size_t rec_len, const uint8_t *list, size_t list_len, size_t *at, uint64_t *replies, size_t replies_len);

@@ -1,0 +1,48 @@
+//! Document 01's examples, also against the results that it states.
+
+use super::{filled, Harness, SPARE};
+use second::calls::{sound_rack, Call};
+use second::examples::{self, Line};
+use second::record;
+
+impl Harness {
+    pub fn examples(&mut self) -> Result<(), String> {
+        for example in examples::all() {
+            let (boards, blocks, tokens) = example.sizes;
+            let mut buffer = filled(1, record::length(blocks as usize) + SPARE);
+            let opened = self.call(&buffer, &Call::Open(boards, blocks, tokens))?;
+            stated(example.name, example.opening, opened)?;
+            for line in &example.lines {
+                buffer.clone_from(&self.comparison.after);
+                match line {
+                    Line::Step(bytes, says) => stated(example.name, says, self.call(&buffer, &Call::Step(bytes))?)?,
+                    Line::Letter(component, block, says) => {
+                        stated(example.name, says, self.call(&buffer, &Call::Letter(*component, *block))?)?;
+                    }
+                    Line::Target(target) => {
+                        let rack = sound_rack(&buffer).expect("an example's record is sound");
+                        if rack.mesh.last().map(|m| m.target) != Some(*target) {
+                            return Err(format!("# {}: the newest message does not go to {target}", example.name));
+                        }
+                    }
+                }
+            }
+        }
+        Ok(())
+    }
+}
+
+fn stated(name: &str, says: &str, result: u64) -> Result<(), String> {
+    let number = result as u32;
+    let said = match result >> 56 {
+        0 => "ok".into(),
+        1 => format!("r{number}"),
+        2 => format!("v{number:08x}"),
+        _ => (number as u8 as char).to_string(),
+    };
+    if said == says {
+        Ok(())
+    } else {
+        Err(format!("# {name}: {said} where document 01 states {says}"))
+    }
+}

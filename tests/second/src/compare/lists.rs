@@ -1,0 +1,197 @@
+//! Lists from an opening on.
+
+use super::{filled, Harness, Sizes, RACKS, SPARE};
+use second::calls::{byte_difference, hex, ENGINES};
+use second::coverage::{kind_of, Coverage, LETTER};
+use second::lists::Lists;
+use second::model::{self, Answer, FlatMemory, Rack, Step};
+use second::{record, reply};
+
+impl Harness {
+    pub fn lists(&mut self, steps: u64) -> Result<(), String> {
+        while self.coverage.steps < steps {
+            let mut draw = self.rng.below(RACKS.iter().map(|(_, weight)| weight).sum());
+            let mut rack = 0;
+            while draw >= RACKS[rack].1 {
+                draw -= RACKS[rack].1;
+                rack += 1;
+            }
+            let length = (200 + self.rng.below(2000)) as u64;
+            let seed = self.rng.draw();
+            self.list(seed, RACKS[rack].0, length.min(steps - self.coverage.steps))?;
+        }
+        Ok(())
+    }
+
+    /// A list from an opening on: the model keeps its rack as typed values all along, the engines keep bytes.
+    fn list(&mut self, seed: u64, (boards, blocks, tokens): Sizes, steps: u64) -> Result<(), String> {
+        let mut list = List::open(seed, (boards, blocks, tokens))?;
+        let mut lists = Lists::new(seed);
+        self.coverage.lists += 1;
+        for _ in 0..steps {
+            let bytes = lists.bytes(&list.rack);
+            let result = list.step(bytes, &mut self.coverage)?;
+            self.coverage.steps += 1;
+            self.coverage.count(kind_of(list.made.last().expect("a step was made")), result);
+        }
+        Ok(())
+    }
+}
+
+/// How many state letters are asked in turn after a step; racks with no more places have all of them asked.
+const LETTERS: u32 = 12;
+
+/// A list in progress.
+struct List {
+    seed: u64,
+    sizes: Sizes,
+    rack: Rack,
+    flat: FlatMemory,
+    /// The buffer as the model has it, and each engine's.
+    want: Vec<u8>,
+    buffers: Vec<Vec<u8>>,
+    made: Vec<Vec<u8>>,
+    /// Which letter is next in turn.
+    letter: u32,
+}
+
+impl List {
+    fn open(seed: u64, sizes: Sizes) -> Result<List, String> {
+        let (boards, blocks, tokens) = sizes;
+        let fill = filled(seed, record::length(blocks as usize) + SPARE);
+        let rack = Rack::open(boards, blocks, tokens).expect("sizes in range");
+        let mut list = List {
+            seed,
+            sizes,
+            rack,
+            flat: FlatMemory::new(blocks),
+            want: fill.clone(),
+            buffers: vec![fill; ENGINES.len()],
+            made: Vec::new(),
+            letter: 0,
+        };
+        record::encode(&list.rack, &mut list.want);
+        for (i, engine) in ENGINES.iter().enumerate() {
+            let given = (engine.open)(&mut list.buffers[i], boards, blocks, tokens);
+            list.same(i, reply::done(0), given)?;
+        }
+        Ok(list)
+    }
+
+    fn step(&mut self, bytes: Vec<u8>, coverage: &mut Coverage) -> Result<u64, String> {
+        let read = model::read(&bytes);
+        let block = read.ok().and_then(|step| self.block_of(step));
+        self.made.push(bytes);
+        let reply = read.and_then(|step| self.rack.step(step));
+        let want = reply::of_reply(reply);
+        if reply.is_ok() {
+            record::encode(&self.rack, &mut self.want);
+        }
+        for (i, engine) in ENGINES.iter().enumerate() {
+            let bytes = self.made.last().expect("just pushed");
+            let given = (engine.step)(&mut self.buffers[i], bytes);
+            self.same(i, want, given)?;
+        }
+        if let (Ok(step), Ok(answer)) = (read, reply) {
+            self.demand(step, answer, coverage)?;
+        }
+        coverage.most_in_flight = coverage.most_in_flight.max(self.rack.mesh.len());
+        self.letters(block.filter(|_| reply.is_ok()), coverage)?;
+        Ok(want)
+    }
+
+    /// The block that a step is about.
+    fn block_of(&self, step: Step) -> Option<u8> {
+        match step {
+            Step::Load { block, .. } | Step::Store { block, .. } | Step::Send { block, .. } => Some(block),
+            Step::Raise { block, .. } | Step::Lower { block, .. } | Step::Forward { block, .. } => Some(block),
+            Step::Deliver { position } => self.rack.mesh.get(usize::from(position)).map(|m| m.block),
+        }
+    }
+
+    fn same(&self, i: usize, want: u64, given: u64) -> Result<(), String> {
+        if given != want {
+            return Err(self.case(&format!("{}: {} where the model gives {}", ENGINES[i].name, reply::say(given), reply::say(want))));
+        }
+        match byte_difference(&self.want, &self.buffers[i]) {
+            Some(what) => Err(self.case(&format!("{}: {what}", ENGINES[i].name))),
+            None => Ok(()),
+        }
+    }
+
+    /// The record decoded is the model's rack and sound, each block's tokens are the opening's T, and the flat memory gives the words of loads.
+    fn demand(&mut self, step: Step, answer: Answer, coverage: &mut Coverage) -> Result<(), String> {
+        match record::decode(&self.buffers[0]) {
+            Some(rack) if rack == self.rack => {}
+            _ => return Err(self.case("the decoded record is not the model's rack")),
+        }
+        if !self.rack.sound() {
+            return Err(self.case("the record is not sound after an accepted step"));
+        }
+        let kept = (0..self.sizes.1 as u8).all(|block| {
+            let total = self.rack.total(block);
+            total.owners == 1 && total.plain + total.owners == self.sizes.2
+        });
+        if !kept {
+            return Err(self.case("a block's tokens are not T"));
+        }
+        match (step, answer) {
+            (Step::Store { block, word, value, .. }, _) => self.flat.store(block, word, value),
+            (Step::Load { block, word, .. }, Answer::Word(given)) => {
+                coverage.flat_loads += 1;
+                let flat = self.flat.load(block, word);
+                if given != flat {
+                    return Err(self.case(&format!("load gives {given:08x}, the flat memory {flat:08x}")));
+                }
+            }
+            _ => {}
+        }
+        Ok(())
+    }
+
+    /// All state letters of a small rack after each step; of a large one those of the block that changed and a few others, in turn. Home and
+    /// places off the rack are among them.
+    fn letters(&mut self, changed: Option<u8>, coverage: &mut Coverage) -> Result<(), String> {
+        let (components, blocks) = (self.sizes.0 + 1, self.sizes.1);
+        let places = components * blocks + 1;
+        if let (Some(block), true) = (changed, places > LETTERS) {
+            for component in 1..components {
+                self.same_letter(component, block.into(), coverage)?;
+            }
+        }
+        for _ in 0..places.min(LETTERS) {
+            let (component, block) = match self.letter % places {
+                0 if self.made.len().is_multiple_of(2) => (components, self.letter % 8),
+                0 => (self.letter % 8, blocks),
+                i => ((i - 1) % components, (i - 1) / components),
+            };
+            self.letter = self.letter.wrapping_add(1);
+            self.same_letter(component, block, coverage)?;
+        }
+        Ok(())
+    }
+
+    fn same_letter(&self, component: u32, block: u32, coverage: &mut Coverage) -> Result<(), String> {
+        let want = reply::of_letter(self.rack.letter(component, block));
+        coverage.letters += 1;
+        coverage.count(LETTER, want);
+        for (engine, buffer) in ENGINES.iter().zip(&self.buffers) {
+            let given = (engine.letter)(buffer, component, block);
+            if given != want {
+                let (name, given, want) = (engine.name, reply::say(given), reply::say(want));
+                let what = format!("{name}: {given} where the model gives {want}, at component {component}, block {block}");
+                return Err(self.case(&what) + &format!("letter {component} {block}\n"));
+            }
+        }
+        Ok(())
+    }
+
+    fn case(&self, what: &str) -> String {
+        let (boards, blocks, tokens) = self.sizes;
+        let mut text = format!("fill {} {}\nopen {boards} {blocks} {tokens}\n", self.seed, self.want.len());
+        for bytes in &self.made {
+            text.push_str(&format!("step {}\n", hex(bytes)));
+        }
+        format!("# {what}\n{text}")
+    }
+}

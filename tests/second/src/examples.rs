@@ -1,0 +1,95 @@
+//! Document 01's examples: the lines W1 to W11 and the input of rackrun, with the results that it states; one more for a forward into a full mesh.
+
+use crate::calls::unhex;
+use crate::model::{self, Step};
+
+/// A call and its stated result, in rackrun's words (`ok`, `v` and the word, `r` and the refusal) or a letter.
+pub enum Line {
+    Step(Vec<u8>, &'static str),
+    Letter(u32, u32, &'static str),
+    /// The target of the newest message.
+    Target(u8),
+}
+
+pub struct Example {
+    pub name: &'static str,
+    pub sizes: (u32, u32, u32),
+    pub opening: &'static str,
+    pub lines: Vec<Line>,
+}
+
+fn bytes(hex: &str, says: &'static str) -> Line {
+    Line::Step(unhex(hex).expect("hexadecimal digits"), says)
+}
+
+fn line(step: Step, says: &'static str) -> Line {
+    Line::Step(model::write(step), says)
+}
+
+fn send(component: u8, block: u8, target: u8, plain: u8, owner: bool, data: bool, says: &'static str) -> Line {
+    line(Step::Send { component, block, target, plain, owner, data }, says)
+}
+
+fn deliver(says: &'static str) -> Line {
+    line(Step::Deliver { position: 0 }, says)
+}
+
+fn raise(component: u8, says: &'static str) -> Line {
+    line(Step::Raise { component, block: 0 }, says)
+}
+
+fn lower(component: u8, says: &'static str) -> Line {
+    line(Step::Lower { component, block: 0 }, says)
+}
+
+fn load(component: u8, says: &'static str) -> Line {
+    line(Step::Load { component, block: 0, word: 0 }, says)
+}
+
+fn store(component: u8, says: &'static str) -> Line {
+    line(Step::Store { component, block: 0, word: 0, value: 1 }, says)
+}
+
+pub fn all() -> Vec<Example> {
+    let rack = |name, lines| Example { name, sizes: (2, 1, 3), opening: "ok", lines };
+    let opening = |name, tokens, opening| Example { name, sizes: (2, 1, tokens), opening, lines: Vec::new() };
+    let w2 = || vec![send(0, 0, 1, 2, true, true, "ok"), deliver("ok"), store(1, "ok"), Line::Letter(1, 0, "M")];
+    let mut w3 = w2();
+    w3.extend([send(1, 0, 2, 1, false, false, "ok"), deliver("ok"), load(2, "r6")]);
+    let mut w4 = w2();
+    w4.extend([send(1, 0, 2, 1, false, false, "ok"), deliver("ok"), store(1, "r7")]);
+    let full = || {
+        let mut lines: Vec<Line> = (0..63).map(|_| send(0, 0, 1, 1, false, false, "ok")).collect();
+        lines.extend([send(0, 0, 1, 0, true, true, "ok"), send(0, 1, 1, 1, false, false, "r13")]);
+        lines
+    };
+    let mut w8 = full();
+    w8.extend([deliver("ok"), send(0, 1, 1, 1, false, false, "ok")]);
+    let mut forward_full = full();
+    forward_full.extend([line(Step::Raise { component: 1, block: 1 }, "ok"), line(Step::Forward { component: 0, block: 1 }, "r13")]);
+    vec![
+        rack("W1", vec![load(1, "r5")]),
+        rack("W2", w2()),
+        rack("W3", w3),
+        rack("W4", w4),
+        rack("W5", vec![send(0, 0, 1, 0, true, false, "r12")]),
+        rack("W6", vec![send(0, 0, 1, 3, false, false, "r11")]),
+        rack("W7", vec![send(0, 0, 1, 0, false, false, "r10")]),
+        Example { name: "W8", sizes: (2, 2, 64), opening: "ok", lines: w8 },
+        Example { name: "W8, then a forward", sizes: (2, 2, 64), opening: "ok", lines: forward_full },
+        rack("W9", vec![raise(2, "ok"), raise(1, "ok"), line(Step::Forward { component: 0, block: 0 }, "ok"), Line::Target(1)]),
+        rack("W10", vec![raise(1, "ok"), raise(2, "ok"), lower(1, "ok"), raise(1, "r16"), lower(2, "ok"), raise(1, "ok")]),
+        opening("W11, T = 1", 1, "r19"),
+        opening("W11, T = 2", 2, "ok"),
+        rack(
+            "rackrun",
+            vec![
+                bytes("12 00 18 01 00 01 00 02 00 01 00 05 00 01 01 06 00 01 02 07 00 01 01 08 00 01 01", "ok"),
+                bytes("13 00 04 09 00 01 00", "ok"),
+                bytes("11 00 13 01 00 01 01 02 00 01 00 03 00 01 00 04 00 04 00 00 00 2A", "ok"),
+                bytes("10 00 0C 01 00 01 01 02 00 01 00 03 00 01 00", "v0000002a"),
+                bytes("10 00 0C 01 00 01 02 02 00 01 00 03 00 01 00", "r5"),
+            ],
+        ),
+    ]
+}

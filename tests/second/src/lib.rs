@@ -1,0 +1,13 @@
+//! A second implementation of document 01 beside the proved engine: see README.md.
+
+pub mod calls;
+pub mod coverage;
+pub mod engine;
+pub mod examples;
+pub mod lists;
+pub mod model;
+pub mod numbers;
+pub mod record;
+pub mod reply;
+pub mod rng;
+pub mod tuned;
