@@ -45,6 +45,11 @@ module _ (list : List ℕ) (at : ℕ) (h : at < length list) where
     unfolding cutAt
     cut-whole l = record { is = omega (arith, length-drop at list, two at list (omega arith)); after = omega arith; inside = omega arith }
 
+-- past the list nothing is cut
+pub cut-past : (list : List ℕ) (at : ℕ) → length list ≤ at → at ≡ at + cutAt (drop at list)
+unfolding cutAt
+cut-past list at l = omega (arith, length-drop at list)
+
 -- ---- the length of a record of b blocks
 
 length-not : (b : ℕ) → (leb 1 b && leb b 32) ≡ false → refused Size ≡ packedLength b

@@ -20,12 +20,12 @@ use Rattle.engine.specs.Packing.{packedReply}
 use Rattle.engine.specs.Run.{given, Ran}
 
 -- the first record, and the others
-cuts-first : (k : ℕ) (s : List ℕ) → 0 < length s → cuts (suc k) s ≡ take (cutAt s) s ∷ cuts k (drop (cutAt s) s)
+pub cuts-first : (k : ℕ) (s : List ℕ) → 0 < length s → cuts (suc k) s ≡ take (cutAt s) s ∷ cuts k (drop (cutAt s) s)
 unfolding cuts
 cuts-first k [] l = absurd (omega arith)
 cuts-first k (x ∷ s) l = refl
 
-cuts-none : (k : ℕ) (s : List ℕ) → length s ≡ 0 → cuts k s ≡ []
+pub cuts-none : (k : ℕ) (s : List ℕ) → length s ≡ 0 → cuts k s ≡ []
 unfolding cuts
 cuts-none zero s e = refl
 cuts-none (suc k) [] e = refl

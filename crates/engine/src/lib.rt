@@ -73,6 +73,16 @@ fn cut(list: &[u8], at: usize) -> usize
     at + size
 }
 
+// The same for any place: past the list nothing is left, and the place stays.
+pub fn cut_end(list: &[u8], at: usize) -> usize
+    ensures { λ r. ⌜ r ≡ at + cutAt (drop at (now (list .entry))) ⌝ }
+{
+    if at < list.len() {
+        return cut(list, at);
+    }
+    at
+}
+
 // A reply as one number.
 pub fn pack_reply(reply: Reply) -> u64
     ensures { λ r. ⌜ r ≡ packedReply reply ⌝ }

@@ -1,0 +1,307 @@
+-- Laws of the text: how long its parts are, how they are placed one after the other, and that a run of lines goes on.
+use Prim.Native.Nat.{ℕ, zero, suc, _+_, _*_, _-_, _/_, _%_, _≤_, _<_, min}
+use native.Mathlib.Nat.{add-zero, zero-add}
+use native.Mathlib.Numerals.{add-one, sub-one}
+use native.Mathlib.Omega.{arith}
+use mathlib.Core.Path.{_≡_, refl, sym, ap, _∙_}
+use mathlib.Core.Bool.{Bool, true, false, cond}
+use mathlib.Core.List.{List, [], _∷_, _++_, append-nil}
+use lib.ListN.{length, getD, set, take, drop, length-append, length-drop}
+use lib.Seq.{set-split, drop-drop, take-take, take-all, length-take-le}
+use lib.Dec.{ltb}
+use borrow.Author.Tests.{lt-ltb, le-ltb}
+use native.Mathlib.Decide.{decLe}
+use Rattle.base.proofs.Lists.{rest-all}
+use Rattle.wire.specs.Writer.{place}
+use Rattle.wire.proofs.Placing.{length-place, place-none, place-more}
+use Rattle.refusals.specs.declared.Refusal.{Refusal}
+use Rattle.refusals.specs.declared.Refusal.the-variants.{Torn}
+use Rattle.refusals.specs.Table.{number}
+use Rattle.protocol.specs.declared.Answer.{Answer}
+use Rattle.protocol.specs.declared.Answer.the-variants.{Done, Word}
+use Rattle.protocol.specs.declared.Reply.{Reply}
+use Rattle.protocol.specs.declared.Reply.the-variants.{Accepted, Refused}
+use Rattle.rack.specs.Entries.{openTold, openAfter}
+use Rattle.engine.specs.Step.{stepTold, stepAfter}
+use Rattle.engine.specs.Cut.{cutAt, cuts}
+use Rattle.engine.specs.Lists.{replies}
+use Rattle.engine.proofs.Running.{cuts-first, cuts-none, span}
+use Rattle.report.specs.Text.{digit, decimal, hexadecimal, said, line, lines, stepLines, text}
+
+-- ---- lengths
+
+pub length-decimal : (k n : ℕ) → length (decimal k n) ≤ k + 1
+unfolding decimal
+length-decimal zero n = omega arith
+length-decimal (suc k) n = by (length-decimal k (n / 10)) (ltb n 10)
+  where
+    by : length (decimal k (n / 10)) ≤ k + 1 → (t : Bool) → length (cond t (digit n ∷ []) (decimal k (n / 10) ++ digit (n % 10) ∷ [])) ≤ suc k + 1
+    by l true = omega arith
+    by l false = omega (arith, length-append (decimal k (n / 10)) (digit (n % 10) ∷ []))
+
+pub length-hexadecimal : (k n : ℕ) → length (hexadecimal k n) ≡ k
+unfolding hexadecimal
+length-hexadecimal zero n = refl
+length-hexadecimal (suc k) n = omega (arith, length-append (hexadecimal k (n / 16)) (digit (n % 16) ∷ []), length-hexadecimal k (n / 16))
+
+pub length-said : (r : Reply) → length (said r) ≤ 9
+unfolding said
+length-said (Accepted Done) = omega arith
+length-said (Accepted (Word w)) = omega (arith, length-hexadecimal 8 w)
+length-said (Refused r) = omega (arith, length-decimal 1 (number r))
+
+pub length-line : (i : ℕ) (r : Reply) → length (line i r) ≤ 16
+unfolding line
+length-line i r = omega (arith, length-append (decimal 4 i) (32 ∷ (said r ++ 10 ∷ [])), length-append (said r) (10 ∷ []), length-decimal 4 i, length-said r)
+
+-- ---- placing
+
+pub put-byte : (at x : ℕ) (out : List ℕ) → at < length out → set out at x ≡ place at (x ∷ []) out
+unfolding place
+put-byte at x out h = rw (add-one at) (set-split out at x h)
+
+-- bytes are placed from `at` on: the place after them, and the buffer
+abbrev pub Placed : ℕ → List ℕ → List ℕ → ℕ → List ℕ → Type 0
+Placed at bs out next out′ = (next ≡ at + length bs) × (out′ ≡ place at bs out)
+
+pub put-none : (at : ℕ) (out : List ℕ) → Placed at [] out at out
+put-none at out = (sym (add-zero at), sym (place-none at out))
+
+-- one run after the other
+pub put-more : (at m next : ℕ) (a b out out′ out″ : List ℕ) → at ≤ length out → Placed at a out m out′ → Placed m b out′ next out″ → Placed at (a ++ b) out next out″
+put-more at m next a b out out′ out″ h (p, q) (p′, q′) = (
+  omega (arith, length-append a b),
+  q′ ∙ (λ i. place (p i) b (q i)) ∙ place-more at a b out h,
+)
+
+-- the same bytes
+pub put-same : (at next : ℕ) (a b out out′ : List ℕ) → a ≡ b → Placed at a out next out′ → Placed at b out next out′
+put-same at next a b out out′ e (p, q) = (p ∙ ap (λ (l : List ℕ). at + length l) e, q ∙ ap (λ (l : List ℕ). place at l out) e)
+
+-- ---- the digits
+
+module _ (at next n d : ℕ) (out out″ : List ℕ) where
+  pub decimal-last : (more : ℕ) → more ≡ 0 → d ≡ digit (n % 10) → Placed at (d ∷ []) out next out″ → Placed at (decimal more n) out next out″
+  unfolding decimal
+  decimal-last more z e p = put-same at next (d ∷ []) (decimal more n) out out″ (ap (λ (x : ℕ). x ∷ []) e ∙ ap (λ (k : ℕ). decimal k n) (sym z)) p
+
+  pub decimal-small : (more : ℕ) → (more ≡ 0 → ⊥) → n < 10 → d ≡ digit n → Placed at (d ∷ []) out next out″ → Placed at (decimal more n) out next out″
+  unfolding decimal
+  decimal-small zero f l e p = absurd (f refl)
+  decimal-small (suc k) f l e p =
+      put-same at next (d ∷ []) (decimal (suc k) n) out out″
+      (ap (λ (x : ℕ). x ∷ []) e ∙ ap (λ (t : Bool). cond t (digit n ∷ []) (decimal k (n / 10) ++ digit (n % 10) ∷ [])) (sym (lt-ltb n 10 l))) p
+
+  module _ (last : ℕ) (out′ : List ℕ) (within : at ≤ length out) where
+    pub decimal-more : (more : ℕ) → (more ≡ 0 → ⊥) → 10 ≤ n → Placed at (decimal (more - 1) (n / 10)) out last out′ → d ≡ digit (n % 10) → Placed last (d ∷ []) out′ next out″
+        → Placed at (decimal more n) out next out″
+    unfolding decimal
+    decimal-more zero f l p e q = absurd (f refl)
+    decimal-more (suc k) f l p e q =
+        put-same at next (decimal k (n / 10) ++ d ∷ []) (decimal (suc k) n) out out″
+        (ap (λ (x : ℕ). decimal k (n / 10) ++ x ∷ []) e ∙ ap (λ (t : Bool). cond t (digit n ∷ []) (decimal k (n / 10) ++ digit (n % 10) ∷ [])) (sym (le-ltb n 10 l)))
+        (put-more at last next (decimal k (n / 10)) (d ∷ []) out out′ out″ within (rw (sub-one (suc k)) at p) q)
+
+    pub hexadecimal-more : (count : ℕ) → (count ≡ 0 → ⊥) → Placed at (hexadecimal (count - 1) (n / 16)) out last out′ → d ≡ digit (n % 16) → Placed last (d ∷ []) out′ next out″
+        → Placed at (hexadecimal count n) out next out″
+    unfolding hexadecimal
+    hexadecimal-more zero f p e q = absurd (f refl)
+    hexadecimal-more (suc k) f p e q =
+        put-same at next (hexadecimal k (n / 16) ++ d ∷ []) (hexadecimal (suc k) n) out out″ (ap (λ (x : ℕ). hexadecimal k (n / 16) ++ x ∷ []) e)
+        (put-more at last next (hexadecimal k (n / 16)) (d ∷ []) out out′ out″ within (rw (sub-one (suc k)) at p) q)
+
+pub hexadecimal-none : (at n count : ℕ) (out : List ℕ) → count ≡ 0 → Placed at (hexadecimal count n) out at out
+unfolding hexadecimal
+hexadecimal-none at n count out z = put-same at at [] (hexadecimal count n) out out (ap (λ (k : ℕ). hexadecimal k n) (sym z)) (put-none at out)
+
+-- ---- a line
+
+module _ (at m next : ℕ) (out out′ out″ : List ℕ) (within : at ≤ length out) where
+  pub said-done : Placed at (111 ∷ []) out m out′ → Placed m (107 ∷ []) out′ next out″ → Placed at (said (Accepted Done)) out next out″
+  unfolding said
+  said-done p q = put-more at m next (111 ∷ []) (107 ∷ []) out out′ out″ within p q
+
+  pub said-word : (w : ℕ) → Placed at (118 ∷ []) out m out′ → Placed m (hexadecimal 8 w) out′ next out″ → Placed at (said (Accepted (Word w))) out next out″
+  unfolding said
+  said-word w p q = put-more at m next (118 ∷ []) (hexadecimal 8 w) out out′ out″ within p q
+
+  pub said-refused : (r : Refusal) (n : ℕ) → n ≡ number r → Placed at (114 ∷ []) out m out′ → Placed m (decimal 1 n) out′ next out″ → Placed at (said (Refused r)) out next out″
+  unfolding said
+  said-refused r n e p q = put-more at m next (114 ∷ []) (decimal 1 (number r)) out out′ out″ within p (put-same m next (decimal 1 n) (decimal 1 (number r)) out′ out″ (ap (decimal 1) e) q)
+
+pub line-placed : (at a b c next i : ℕ) (r : Reply) (out out₁ out₂ out₃ out₄ : List ℕ) → at + 16 ≤ length out
+    → Placed at (decimal 4 i) out a out₁ → Placed a (32 ∷ []) out₁ b out₂ → Placed b (said r) out₂ c out₃ → Placed c (10 ∷ []) out₃ next out₄
+    → Placed at (line i r) out next out₄
+unfolding line
+line-placed at a b c next i r out out₁ out₂ out₃ out₄ h p q u v =
+    let l₁ : length out₁ ≡ length out = ap length (p .1) ∙ length-place at (decimal 4 i) out (omega (arith, length-decimal 4 i)) in
+    let l₂ : length out₂ ≡ length out₁ = ap length (q .1) ∙ length-place a (32 ∷ []) out₁ (omega (arith, length-decimal 4 i, p .0)) in
+    put-more at a next (decimal 4 i) (32 ∷ (said r ++ 10 ∷ [])) out out₁ out₄ (omega arith) p
+    (put-more a b next (32 ∷ []) (said r ++ 10 ∷ []) out₁ out₂ out₄ (omega (arith, length-decimal 4 i, p .0)) q
+    (put-more b c next (said r) (10 ∷ []) out₂ out₃ out₄ (omega (arith, length-decimal 4 i, p .0, q .0)) u v))
+
+-- ---- the steps' lines
+
+lines-first : (i : ℕ) (r : Reply) (rs : List Reply) → lines i (r ∷ rs) ≡ line i r ++ lines (i + 1) rs
+unfolding lines
+lines-first i r rs = ap (λ (k : ℕ). line i r ++ lines k rs) (sym (add-one i))
+
+lines-none : (i : ℕ) → lines i [] ≡ []
+unfolding lines
+lines-none i = refl
+
+replies-first : (s b : List ℕ) (bs : List (List ℕ)) → replies s (b ∷ bs) ≡ stepTold s b ∷ replies (stepAfter s b) bs
+unfolding replies
+replies-first s b bs = refl
+
+replies-none : (s : List ℕ) → replies s [] ≡ []
+unfolding replies
+replies-none s = refl
+
+module _ (list : List ℕ) where
+  -- the lines that are left, of at most k records
+  abbrev pub left : ℕ → List ℕ → ℕ → ℕ → List ℕ
+  left k rec pos made = lines (made + 1) (replies rec (cuts (k - made) (drop pos list)))
+
+  -- a record inside the list ends inside it, after three bytes or with the list
+  pub cut-inside : (pos end : ℕ) → pos < length list → end ≡ pos + cutAt (drop pos list) → (pos < end) × ((end ≤ length list) × (16 + 16 * ((length list - end + 2) / 3) ≤ 16 * ((length list - pos + 2) / 3)))
+  unfolding cutAt
+  cut-inside pos end l e = (omega (arith, length-drop pos list), (omega (arith, length-drop pos list), omega (arith, length-drop pos list)))
+
+  pub left-first : (k : ℕ) (rec : List ℕ) (pos made end : ℕ) → made < k → pos < length list → end ≡ pos + cutAt (drop pos list)
+      → left k rec pos made ≡ line (made + 1) (stepTold rec (span list pos end)) ++ left k (stepAfter rec (span list pos end)) end (made + 1)
+  left-first k rec pos made end room some is =
+      let n : ℕ = cutAt (drop pos list) in
+      let j : k - made ≡ suc (k - (made + 1)) = omega arith in
+      let e : n ≡ end - pos = omega arith in
+      ap (λ (j : ℕ). lines (made + 1) (replies rec (cuts j (drop pos list)))) j
+      ∙ ap (λ (l : List (List ℕ)). lines (made + 1) (replies rec l)) (cuts-first (k - (made + 1)) (drop pos list) (simp length-drop (omega arith))
+      ∙ (λ i. take (e i) (drop pos list) ∷ cuts (k - (made + 1)) ((drop-drop n pos list ∙ ap (λ (j : ℕ). drop j list) (sym is)) i)))
+      ∙ ap (lines (made + 1)) (replies-first rec (span list pos end) (cuts (k - (made + 1)) (drop end list)))
+      ∙ lines-first (made + 1) (stepTold rec (span list pos end)) (replies (stepAfter rec (span list pos end)) (cuts (k - (made + 1)) (drop end list)))
+
+  left-none : (k : ℕ) (rec : List ℕ) (pos made : ℕ) → length list ≤ pos → left k rec pos made ≡ []
+  left-none k rec pos made l =
+      ap (λ (c : List (List ℕ)). lines (made + 1) (replies rec c)) (cuts-none (k - made) (drop pos list) (simp length-drop (omega arith)))
+      ∙ ap (lines (made + 1)) (replies-none rec)
+      ∙ lines-none (made + 1)
+
+  module _ (k : ℕ) (rec₀ out₀ : List ℕ) (at : ℕ) where
+    -- what is left, placed after what there is, makes the whole
+    pub record Going (rec out : List ℕ) (to pos made : ℕ) : Type 0 where
+      pub most : length list ≤ k
+      pub kept : length rec ≡ length rec₀
+      pub within : pos ≤ length list
+      pub few : made ≤ pos
+      pub long : length out ≡ length out₀
+      pub room : to + 16 * ((length list - pos + 2) / 3) ≤ length out
+      pub count : at + length (left k rec₀ 0 0) ≡ to + length (left k rec pos made)
+      pub whole : place at (left k rec₀ 0 0) out₀ ≡ place to (left k rec pos made) out
+
+    pub going-start : length list ≤ k → at + 16 * ((length list + 2) / 3) ≤ length out₀ → Going rec₀ out₀ at 0 0
+    going-start m h = record { most = m; kept = refl; within = omega arith; few = omega arith; long = refl; room = omega arith; count = refl; whole = refl }
+
+    module _ (rec out : List ℕ) (to pos made : ℕ) (g : Going rec out to pos made) where
+      pub going-room : pos < length list → to + 16 ≤ length out
+      going-room l = omega (arith, g .room)
+
+      pub going-more : (end : ℕ) → pos < length list → end ≡ pos + cutAt (drop pos list) → (rec′ out′ : List ℕ) (reply : Reply) (next : ℕ)
+          → length rec′ ≡ length rec → reply ≡ stepTold rec (span list pos end) → rec′ ≡ stepAfter rec (span list pos end)
+          → (next ≡ to + length (line (made + 1) reply)) × (out′ ≡ place to (line (made + 1) reply) out)
+          → Going rec′ out′ next end (made + 1)
+      going-more end l e rec′ out′ reply next ek er eb (p, q) =
+          let is : left k rec pos made ≡ line (made + 1) reply ++ left k rec′ end (made + 1) =
+          left-first k rec pos made end (omega (arith, g .few, g .most)) l e ∙ (λ i. line (made + 1) (sym er i) ++ left k (sym eb i) end (made + 1)) in
+          let c = cut-inside pos end l e in
+          let short : length (line (made + 1) reply) ≤ 16 = length-line (made + 1) reply in
+          let long : length out′ ≡ length out = ap length q ∙ length-place to (line (made + 1) reply) out (omega (arith, g .room)) in
+          record {
+            most = g .most;
+            kept = ek ∙ g .kept;
+            within = c .1 .0;
+            few = omega (arith, g .few);
+            long = long ∙ g .long;
+            room = omega (arith, g .room);
+            count = g .count ∙ ap (λ (t : List ℕ). to + length t) is ∙ omega (arith, length-append (line (made + 1) reply) (left k rec′ end (made + 1)));
+            whole =
+                g .whole
+                ∙ ap (λ (t : List ℕ). place to (t) out) is
+                ∙ sym (place-more to (line (made + 1) reply) (left k rec′ end (made + 1)) out (omega (arith, g .room)))
+                ∙ (λ i. place (sym p i) (left k rec′ end (made + 1)) (sym q i));
+          }
+
+      pub going-end : length list ≤ pos → (to ≡ at + length (left k rec₀ 0 0)) × (out ≡ place at (left k rec₀ 0 0) out₀)
+      going-end l =
+          let none : left k rec pos made ≡ [] = left-none k rec pos made l in (
+            sym (g .count ∙ ap (λ (t : List ℕ). to + length t) none ∙ add-zero to),
+            sym (g .whole ∙ ap (λ (t : List ℕ). place to (t) out) none ∙ place-none to out),
+          )
+
+-- ---- the whole text
+
+-- after an opening with the first three bytes
+abbrev opening : List ℕ → List ℕ → List ℕ
+opening s u =
+    line 0 (openTold (getD u 0 0) (getD u 1 0) (getD u 2 0) s)
+    ++ stepLines (openTold (getD u 0 0) (getD u 1 0) (getD u 2 0) s) (openAfter (getD u 0 0) (getD u 1 0) (getD u 2 0) s) (drop 3 u)
+
+-- of the bytes that are used
+abbrev body : List ℕ → List ℕ → List ℕ
+body s u = cond (ltb (length u) 3) (line 0 (Refused Torn)) (opening s u)
+
+text-is : (s input : List ℕ) → text s input ≡ body s (take 65536 input)
+unfolding text
+text-is s input = refl
+
+-- the bytes that are used, used again
+pub text-used : (s input : List ℕ) (n : ℕ) → n ≡ min 65536 (length input) → text s (take n input) ≡ text s input
+text-used s input n e = text-is s (take n input) ∙ ap (body s) (by (decLe 65536 (length input))) ∙ sym (text-is s input)
+  where
+    by : Dec (65536 ≤ length input) → take 65536 (take n input) ≡ take 65536 input
+    by (yes h) = take-take 65536 n input (omega arith)
+    by (no h) = ap (take 65536) (take-all n input (omega (arith, h)))
+
+module _ (s input : List ℕ) (most : length input ≤ 65536) where
+  whole : body s input ≡ text s input
+  whole = sym (text-is s input ∙ ap (body s) (take-all 65536 input most))
+
+  pub text-torn : length input < 3 → line 0 (Refused Torn) ≡ text s input
+  text-torn l = sym (ap (λ (t : Bool). cond t (line 0 (Refused Torn)) (opening s input)) (lt-ltb (length input) 3 l)) ∙ whole
+
+  module _ (some : 3 ≤ length input) (n b t : ℕ) (en : n ≡ getD input 0 0) (eb : b ≡ getD input 1 0) (et : t ≡ getD input 2 0) (told : Reply) (rec : List ℕ) (e : told ≡ openTold n b t s) (er : rec ≡ openAfter n b t s) where
+    text-opened : line 0 told ++ stepLines told rec (drop 3 input) ≡ text s input
+    text-opened =
+        let e′ : told ≡ openTold (getD input 0 0) (getD input 1 0) (getD input 2 0) s = e ∙ (λ i. openTold (en i) (eb i) (et i) s) in
+        let er′ : rec ≡ openAfter (getD input 0 0) (getD input 1 0) (getD input 2 0) s = er ∙ (λ i. openAfter (en i) (eb i) (et i) s) in
+        (λ i. line 0 (e′ i) ++ stepLines (e′ i) (er′ i) (drop 3 input))
+        ∙ sym (ap (λ (t : Bool). cond t (line 0 (Refused Torn)) (opening s input)) (le-ltb (length input) 3 some))
+        ∙ whole
+
+    pub text-refused : (r : Refusal) → told ≡ Refused r → line 0 told ≡ text s input
+    text-refused r k = sym (append-nil (line 0 told)) ∙ ap (λ (x : Reply). line 0 told ++ stepLines x rec (drop 3 input)) (sym k) ∙ text-opened
+
+    pub text-accepted : (a : Answer) → told ≡ Accepted a → line 0 told ++ lines 1 (replies rec (cuts 65536 (take (length input - 3) (drop 3 input)))) ≡ text s input
+    text-accepted a k =
+        ap (λ (l : List ℕ). line 0 told ++ lines 1 (replies rec (cuts 65536 l))) (rest-all input 3)
+        ∙ ap (λ (x : Reply). line 0 told ++ stepLines x rec (drop 3 input)) (sym k)
+        ∙ text-opened
+
+-- a text from the start of the buffer on
+pub text-placed : (next : ℕ) (bs t out out′ : List ℕ) → bs ≡ t → Placed 0 bs out next out′ → (next ≡ length t) × (out′ ≡ place 0 t out)
+text-placed next bs t out out′ e p = let q = put-same 0 next bs t out out′ e p in (q .0 ∙ zero-add (length t), q .1)
+
+pub steps-room : (input : List ℕ) (part old new at : ℕ) (r : Reply) → length input ≤ 65536 → 349536 ≤ old → new ≡ old → 3 ≤ length input → at ≡ 0 + length (line 0 r)
+    → part ≡ length (take (length input - 3) (drop 3 input)) → (part ≤ 65536) × (at + 16 * ((part + 2) / 3) ≤ new)
+steps-room input part old new at r h k same some e is =
+    let l : part ≡ length input - 3 = is ∙ ap length (rest-all input 3) ∙ length-drop 3 input in
+    (omega arith, omega (arith, length-line 0 r))
+
+pub used-length : (input : List ℕ) (n : ℕ) → n ≡ min 65536 (length input) → (n ≡ length (take n input)) × (length (take n input) ≤ 65536)
+used-length input n e =
+    let l : length (take n input) ≡ n = length-take-le n input (omega arith) in
+    (sym l, omega arith)
+
+-- a text that was placed is no longer than the buffer afterwards
+pub placed-fits : (n : ℕ) (t out out′ : List ℕ) → n ≡ length t → out′ ≡ place 0 t out → n ≤ length out′
+unfolding place
+placed-fits n t out out′ e q = omega (arith, ap length q, length-append (take 0 out) (t ++ drop (0 + length t) out), length-append t (drop (0 + length t) out))
