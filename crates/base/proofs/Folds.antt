@@ -8,7 +8,7 @@ use native.Mathlib.Omega.{arith}
 use lib.ListN.{length, getD, set, replicate}
 use native.Mathlib.Numerals.{add-one}
 use lib.Seq.{getD-set-same, getD-set-other}
-use Rattle.base.specs.Folds.{one, implies, below, countBelow, sumBelow, sum, every, All, removed}
+use Rattle.base.specs.Folds.{one, below, countBelow, sumBelow, sum, every, All, removed}
 use Rattle.base.proofs.Tests.{either, differs, same-or-not, same-test, and-l, and-r, and-of}
 
 -- ---- every number below a bound

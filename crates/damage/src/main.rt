@@ -1,19 +1,18 @@
 // Opens records of several sizes, and counts the records that differ from a small one in a single byte and are sound.
 ghost use Prim.Native.Nat.{_≤_};
-ghost use lib.ListN.{length};
 use libc::STDOUT_FILENO;
 
 // Prints whether a record of these sizes, opened in a buffer of the longest record, is sound.
 fn show_opening(boards: u32, blocks: u32, tokens: u32) {
     let mut rec = [0u8; 21380];
-    rack::open::open(&mut rec, boards, blocks, tokens);
+    opening::open(&mut rec, boards, blocks, tokens);
     io::write_all(STDOUT_FILENO, b"open ");
     io::print_decimal(STDOUT_FILENO, boards as u64);
     io::write_all(STDOUT_FILENO, b" ");
     io::print_decimal(STDOUT_FILENO, blocks as u64);
     io::write_all(STDOUT_FILENO, b" ");
     io::print_decimal(STDOUT_FILENO, tokens as u64);
-    if rack::sound::sound(&rec) {
+    if soundness::sound(&rec) {
         io::write_all(STDOUT_FILENO, b": sound\n");
     } else {
         io::write_all(STDOUT_FILENO, b": unsound\n");
@@ -30,7 +29,7 @@ fn damaged_at(rec: &mut [u8; 3028], at: usize) -> u64
     let mut i: u32 = 1;
     while i < 256 {
         rec[at] = ((base::wide(old) + i) % 256) as u8;
-        if rack::sound::sound(rec) {
+        if soundness::sound(rec) {
             count += 1;
         }
         i += 1;
@@ -62,7 +61,7 @@ fn main() {
     show_opening(3, 2, 5);
     show_opening(15, 32, 64);
     let mut rec = [0u8; 3028];
-    rack::open::open(&mut rec, 2, 1, 3);
+    opening::open(&mut rec, 2, 1, 3);
     show_damaged(b"fresh: ", &mut rec);
     // Board 1 holds a plain token with no data, one is in flight without data, the owner with data; board 2 waits and bars board 1.
     rec[3] = 2;

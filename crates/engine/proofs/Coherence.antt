@@ -1,9 +1,8 @@
 -- Demand 3: an accepted opening leaves a live record of the fresh rack, and the list goes as the rack goes.
-use Prim.Native.Nat.{ℕ, _<_}
-use mathlib.Core.Path.{_≡_, refl, sym, ap, ap₂, _∙_, subst}
+use Prim.Native.Nat.{ℕ}
+use mathlib.Core.Path.{_≡_, refl, sym, ap, _∙_, subst}
 use mathlib.Core.List.{List}
 use lib.ListN.{length, length-replicate}
-use Rattle.layout.specs.Number.{Bytes}
 use Rattle.refusals.specs.declared.Check.{Check}
 use Rattle.refusals.specs.declared.Check.the-variants.{Pass, Refuse}
 use Rattle.protocol.specs.declared.Answer.the-variants.{Done}
@@ -14,13 +13,13 @@ use Rattle.protocol.specs.Memory as Rack
 use Rattle.protocol.proofs.Fresh.{fresh-sound, fresh-coherent}
 use Rattle.protocol.proofs.Run.{run-keeps}
 use Rattle.record.specs.Record.{get}
-use Rattle.record.proofs.Live.{Live, live-of}
-use Rattle.rack.specs.Entries.{openCheck, openReply, openTold, openAfter}
-use Rattle.rack.proofs.Opened.{Sized, sized, open-get, open-sound, open-bytes}
-use Rattle.engine.specs.Lists.{after, answers, accesses}
-use Rattle.engine.specs.Coherence.{Holds, Coherence, RunCoherence}
-use Rattle.engine.specs.Run.{given, Ran}
-use Rattle.engine.proofs.Lists.{stepsOf, Runs, runs}
+use Rattle.record.proofs.Live.{live-of}
+use Rattle.opening.specs.Opening.{openCheck, openReply, openTold, openAfter}
+use Rattle.opening.proofs.Opened.{sized, open-get, open-sound, open-bytes}
+use Rattle.engine.specs.Lists.{answers, accesses}
+use Rattle.engine.specs.Coherence.{Coherence, RunCoherence}
+use Rattle.engine.specs.Run.{given}
+use Rattle.engine.proofs.Lists.{stepsOf, runs}
 
 passes : (k : Check) → openReply k ≡ Accepted Done → k ≡ Pass
 passes Pass e = refl

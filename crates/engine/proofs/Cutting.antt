@@ -1,13 +1,13 @@
 -- Where a record that starts at a place of a list ends, and how a list falls into records.
-use Prim.Native.Nat.{ℕ, zero, suc, _+_, _*_, _-_, _≤_, _<_, min}
+use Prim.Native.Nat.{ℕ, _+_, _*_, _-_, _≤_, _<_}
 use native.Mathlib.Omega.{arith}
-use mathlib.Core.Path.{_≡_, refl, sym, ap, _∙_}
-use mathlib.Core.List.{List, [], _∷_}
+use mathlib.Core.Path.{_≡_, sym, ap, _∙_}
+use mathlib.Core.List.{List}
 use lib.ListN.{length, getD, take, drop, length-drop}
 use lib.Seq.{drop-drop, take-take}
 use Rattle.arbiter.proofs.ClaimBytes.{read-set-is}
 use lib.Dec.{leb}
-use mathlib.Core.Bool.{Bool, true, false, cond, _&&_}
+use mathlib.Core.Bool.{Bool, false, cond, _&&_}
 use borrow.Author.Tests.{le-leb, lt-leb}
 use Rattle.base.proofs.Tests.{and-of, and-left, and-right}
 use Rattle.refusals.specs.declared.Refusal.the-variants.{Size}
@@ -15,7 +15,7 @@ use Rattle.refusals.specs.Packing.{done, refused}
 use Rattle.record.specs.Record.{recordLength}
 use Rattle.engine.specs.Packing.{packedLength}
 use Rattle.layout.specs.Number.{number}
-use Rattle.engine.specs.Cut.{cutAt, cuts}
+use Rattle.engine.specs.Cut.{cutAt}
 
 -- the two bytes of a record's length
 two : (p : ℕ) (s : List ℕ) → p + 3 ≤ length s → number (take 2 (drop 1 (drop p s))) ≡ getD s (p + 1) 0 * 256 + getD s (p + 2) 0

@@ -6,10 +6,10 @@ use mathlib.Core.List.{List}
 use borrow.Author.Tests.{not-true, not-false}
 use Rattle.layout.specs.Number.{Bytes}
 use Rattle.refusals.specs.declared.Refusal.the-variants.{Unsound}
-use Rattle.wire.specs.declared.Step.{Step}
-use Rattle.wire.specs.declared.Reading.{Reading}
-use Rattle.wire.specs.declared.Reading.the-variants.{Step as Read}
-use Rattle.wire.specs.Reader.{readRecord}
+use Rattle.kinds.specs.declared.Step.{Step}
+use Rattle.reader.specs.declared.Reading.{Reading}
+use Rattle.reader.specs.declared.Reading.the-variants.{Step as Read}
+use Rattle.reader.specs.Reader.{readRecord}
 use Rattle.protocol.specs.declared.Reply.{Reply}
 use Rattle.protocol.specs.declared.Reply.the-variants.{Refused}
 use Rattle.protocol.specs.Rules.{Outcome, refused, rules}
@@ -17,7 +17,8 @@ use Rattle.protocol.specs.Memory.{reply}
 use Rattle.record.specs.Record.{get}
 use Rattle.record.specs.Sound.{soundBytes}
 use Rattle.record.proofs.Live.{live-of, whole-of}
-use Rattle.steps.specs.Apply.{Ready, recordAfter}
+use Rattle.changes.specs.Needs.{Ready}
+use Rattle.steps.specs.Apply.{recordAfter}
 use Rattle.engine.specs.Step.{outcome, stepTold, stepAfter}
 
 -- a reply and a buffer that an outcome on s leaves

@@ -1,32 +1,27 @@
 -- Demand 3 of byte strings: a sound record stays sound, and its rack goes as the abstract rack goes by those strings that are steps;
 -- so the claim on lists of steps is one on lists of byte strings.
-use Prim.Native.Nat.{ℕ, _^_, _<_}
-use native.Mathlib.Omega.{arith}
+use Prim.Native.Nat.{ℕ, _^_}
 use mathlib.Core.Path.{_≡_, refl, sym, ap, ap₂, _∙_, subst}
-use mathlib.Core.Bool.{Bool, true, false, cond, _&&_}
+use mathlib.Core.Bool.{Bool, true, false, cond}
 use mathlib.Core.List.{List, [], _∷_, _++_}
-use lib.ListN.{length}
 use borrow.Author.Tests.{ltb-true}
 use mathlib.Core.Logic.{⊎-elim}
 use Rattle.base.proofs.Tests.{either, and-l, and-r}
 use Rattle.layout.specs.Number.{Bytes}
 use Rattle.refusals.specs.declared.Refusal.the-variants.{Unsound}
-use Rattle.wire.specs.declared.Step.{Step}
-use Rattle.wire.specs.declared.Step.the-variants.{Load, Store, Send, Deliver, Raise, Lower, Forward}
-use Rattle.wire.specs.declared.Reading.{Reading}
-use Rattle.wire.specs.declared.Reading.the-variants.{Step as Read, Refused as NoStep}
-use Rattle.wire.specs.Kinds.{kindOf, places, fit, fits}
-use Rattle.wire.specs.Reader.{readRecord}
-use Rattle.wire.proofs.Theorems.{read-fits}
-use Rattle.protocol.specs.declared.Answer.{Answer}
-use Rattle.protocol.specs.declared.Reply.{Reply}
+use Rattle.kinds.specs.declared.Step.{Step}
+use Rattle.kinds.specs.declared.Step.the-variants.{Load, Store, Send, Deliver, Raise, Lower, Forward}
+use Rattle.reader.specs.declared.Reading.{Reading}
+use Rattle.reader.specs.declared.Reading.the-variants.{Step as Read, Refused as NoStep}
+use Rattle.kinds.specs.Kinds.{kindOf, places, fit, fits}
+use Rattle.reader.specs.Reader.{readRecord}
+use Rattle.reader.proofs.Theorems.{read-fits}
 use Rattle.protocol.specs.Rack.{Rack}
 use Rattle.protocol.specs.Rules.{Outcome, refused, accepted, rules}
-use Rattle.protocol.specs.Memory.{Memory, Access, flat, accessOf, rackAfter, reply, run}
+use Rattle.protocol.specs.Memory.{rackAfter, reply, run}
 use Rattle.protocol.specs.Memory as Rack
-use Rattle.protocol.proofs.Sound.{Sound}
 use Rattle.protocol.proofs.Steps.{Kept, Keeps, StepFits, step-keeps}
-use Rattle.record.specs.Record.{get, put}
+use Rattle.record.specs.Record.{get}
 use Rattle.record.specs.Sound.{soundBytes}
 use Rattle.record.proofs.Live.{Live, live-of, sound-of, put-is, put-live}
 use Rattle.steps.specs.Apply.{recordAfter}

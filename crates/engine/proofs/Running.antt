@@ -3,15 +3,15 @@ use Prim.Native.Nat.{ℕ, zero, suc, _+_, _-_, _≤_, _<_}
 use native.Mathlib.Nat.{sub-zero, zero-add, add-zero}
 use native.Mathlib.Numerals.{add-one}
 use native.Mathlib.Omega.{arith}
-use mathlib.Core.Path.{_≡_, refl, sym, ap, ap₂, _∙_, subst}
+use mathlib.Core.Path.{_≡_, refl, sym, ap, _∙_}
 use mathlib.Core.Bool.{Bool, true, false, _&&_}
 use mathlib.Core.List.{List, [], _∷_, _++_, map, append-assoc}
-use lib.ListN.{length, getD, set, take, drop, length-set, length-take, length-drop, drop-of-length-le, take-append-drop}
+use lib.ListN.{length, set, take, drop, length-set, length-drop, take-append-drop}
 use lib.Dec.{ltb}
 use mathlib.Core.Logic.{_⊎_, inl, inr, ⊎-elim}
 use borrow.Author.Tests.{ltb-true, ltb-false, lt-ltb}
 use Rattle.base.proofs.Tests.{lt-or-le, and-known, and-l, and-r}
-use lib.Seq.{drop-drop, drop-cons, take-suc-set, drop-set-lt, length-take-le}
+use lib.Seq.{drop-drop, take-suc-set, drop-set-lt, length-take-le}
 use Rattle.base.specs.Folds.{sum}
 use Rattle.engine.specs.Step.{stepTold, stepAfter}
 use Rattle.engine.specs.Cut.{cutAt, cuts}

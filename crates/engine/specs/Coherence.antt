@@ -8,7 +8,7 @@ use Rattle.protocol.specs.declared.Reply.the-variants.{Accepted}
 use Rattle.protocol.specs.Rack.{tokensOf, ownersOf}
 use Rattle.protocol.specs.Memory.{blank, flat}
 use Rattle.record.specs.Record.{get}
-use Rattle.rack.specs.Entries.{openTold, openAfter}
+use Rattle.opening.specs.Opening.{openTold, openAfter}
 use Rattle.engine.specs.Lists.{after, answers, accesses}
 use Rattle.engine.specs.Run.{given, Ran}
 

@@ -3,9 +3,9 @@ use mathlib.Core.Bool.{cond}
 use mathlib.Core.List.{List}
 use Prim.Native.Nat.{ℕ}
 use Rattle.refusals.specs.declared.Refusal.the-variants.{Unsound}
-use Rattle.wire.specs.declared.Reading.{Reading}
-use Rattle.wire.specs.declared.Reading.the-variants.{Step, Refused}
-use Rattle.wire.specs.Reader.{readRecord}
+use Rattle.reader.specs.declared.Reading.{Reading}
+use Rattle.reader.specs.declared.Reading.the-variants.{Step, Refused}
+use Rattle.reader.specs.Reader.{readRecord}
 use Rattle.protocol.specs.declared.Reply.{Reply}
 use Rattle.protocol.specs.Rules.{Outcome, refused, rules}
 use Rattle.protocol.specs.Memory.{reply}

@@ -1,6 +1,7 @@
 // The engine for C and Rust: slices are a pointer and then a length, results one number (specs/Packing.antt).
 ghost use mathlib.Core.Path.{_≡_};
-ghost use Rattle.rack.specs.Entries.{openTold, openAfter, letterTold};
+ghost use Rattle.opening.specs.Opening.{openTold, openAfter};
+ghost use Rattle.letters.specs.Letter.{letterTold};
 ghost use Rattle.engine.specs.Step.{stepTold, stepAfter};
 ghost use Rattle.engine.specs.Packing.{packedReply, packedLetter, packedLength, letterNumber};
 ghost use Rattle.engine.specs.Run.{Ran};
@@ -28,7 +29,7 @@ pub extern "C" fn hyl_open(rec: &mut [u8], boards: u32, blocks: u32, tokens: u32
     ensures reply { λ r. ⌜ r ≡ packedReply (openTold boards blocks tokens (now (rec .entry))) ⌝ }
     ensures buffer { λ r. ⌜ now (rec .exit) ≡ openAfter boards blocks tokens (now (rec .entry)) ⌝ }
 {
-    super::pack_reply(rack::open::open(rec, boards, blocks, tokens))
+    super::pack_reply(opening::open(rec, boards, blocks, tokens))
 }
 
 // Gives the bytes of a step to the record.
@@ -65,7 +66,7 @@ fn pack_letter(letter: Letter) -> u64
 pub extern "C" fn hyl_letter(rec: &[u8], component: u32, block: u32) -> u64
     ensures { λ r. ⌜ r ≡ packedLetter (letterTold (now (rec .entry)) component block) ⌝ }
 {
-    match rack::letter::letter(rec, component, block) {
+    match letters::letter(rec, component, block) {
         Lettered::Letter(letter) => pack_letter(letter),
         Lettered::Refused(refusal) => refusals::pack_refused(refusal),
     }

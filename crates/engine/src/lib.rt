@@ -11,11 +11,11 @@ ghost use Rattle.engine.specs.Packing.{packedReply};
 ghost use Rattle.engine.specs.Run.{Ran};
 use base::both;
 use base::wide;
+use kinds::Step;
 use protocol::Answer;
 use protocol::Reply;
+use reader::Reading;
 use refusals::Refusal;
-use wire::Reading;
-use wire::Step;
 
 pub mod exports;
 
@@ -36,10 +36,10 @@ pub fn step(rec: &mut [u8], bytes: &[u8]) -> Reply
     ensures reply { λ r. ⌜ r ≡ stepTold (now (rec .entry)) (now (bytes .entry)) ⌝ }
     ensures buffer { λ r. ⌜ now (rec .exit) ≡ stepAfter (now (rec .entry)) (now (bytes .entry)) ⌝ }
 {
-    match wire::read(bytes) {
+    match reader::read(bytes) {
         Reading::Refused(refusal) => Reply::Refused(refusal),
         Reading::Step(step) => {
-            let sound = rack::sound::sound(rec);
+            let sound = soundness::sound(rec);
             judged(rec, sound, step)
         }
     }
@@ -51,7 +51,7 @@ fn next(rec: &mut [u8], sound: bool, bytes: &[u8]) -> Reply
     ensures reply { λ r. ⌜ r ≡ stepTold (now (rec .entry)) (now (bytes .entry)) ⌝ }
     ensures buffer { λ r. ⌜ now (rec .exit) ≡ stepAfter (now (rec .entry)) (now (bytes .entry)) ⌝ }
 {
-    match wire::read(bytes) {
+    match reader::read(bytes) {
         Reading::Refused(refusal) => Reply::Refused(refusal),
         Reading::Step(step) => judged(rec, sound, step),
     }
@@ -101,7 +101,7 @@ pub fn pack_reply(reply: Reply) -> u64
 pub fn run(rec: &mut [u8], list: &[u8], at: &mut usize, replies: &mut [u64]) -> usize
     ensures { λ r. ⌜ Ran (now (rec .entry)) (now (list .entry)) (now (at .entry)) (now (replies .entry)) r (now (rec .exit)) (now (at .exit)) (now (replies .exit)) ⌝ }
 {
-    let sound = rack::sound::sound(rec);
+    let sound = soundness::sound(rec);
     let mut place = *at;
     let mut made: usize = 0;
     while both(made < replies.len(), place < list.len()) {

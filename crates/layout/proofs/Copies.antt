@@ -7,8 +7,8 @@ use mathlib.Core.List.{List, [], _∷_, _++_, append-assoc, append-nil}
 use lib.ListN.{length, set, take, drop, length-drop, drop-of-length-le}
 use lib.Seq.{drop-drop, take-add, length-take-le}
 use Rattle.base.specs.Folds.{one, All, removed}
-use Rattle.layout.specs.Number.{Bytes, digits}
-use Rattle.layout.specs.Layout.{Layout, part, over, cover, byte, flag, big, pair, iso, items, readItems, writeItems, formedItems}
+use Rattle.layout.specs.Number.{digits}
+use Rattle.layout.specs.Layout.{Layout, part, over, cover, byte, flag, big, pair, iso, items, readItems, writeItems}
 use Rattle.layout.proofs.Parts.{over-behind, length-part, bytes-take, cover-room}
 use Rattle.layout.proofs.Numbers.{length-digits}
 use Rattle.layout.proofs.Laws.{Lawful, Items, StandItems, stands-item, stand-rest}

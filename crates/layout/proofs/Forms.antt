@@ -5,7 +5,7 @@ use native.Mathlib.Nat.{le-refl, le-trans, mul-le-mul-right, mul-comm, not-suc-l
 use native.Mathlib.Omega.{arith}
 use mathlib.Core.Path.{_≡_, refl, sym, ap, _∙_, subst}
 use mathlib.Core.Logic.{⊎-elim}
-use mathlib.Core.Bool.{Bool, true, _&&_}
+use mathlib.Core.Bool.{_&&_}
 use mathlib.Core.List.{List, [], _∷_}
 use lib.ListN.{getD, take, drop}
 use lib.Seq.{take-take, getD-drop}

@@ -1,18 +1,18 @@
 -- The laws of layouts: each way to make a layout from others keeps them, since it writes each part within that part's own bytes.
 use Prim.Native.Nat.{ℕ, zero, suc, _+_, _*_, _^_, _≤_, _<_}
-use native.Mathlib.Nat.{le-refl, not-suc-le-zero, le-of-suc-le-suc, le-trans, le-of-eq, mul-le-mul-right, pow-le-pow-right}
+use native.Mathlib.Nat.{not-suc-le-zero, le-of-suc-le-suc, le-trans, le-of-eq, mul-le-mul-right, pow-le-pow-right}
 use native.Mathlib.Omega.{arith}
 use mathlib.Core.Path.{_≡_, refl, sym, ap, _∙_, subst}
-use mathlib.Core.Bool.{Bool, true, _&&_}
+use mathlib.Core.Bool.{true}
 use mathlib.Core.List.{List, [], _∷_, _++_}
-use lib.Dec.{eqb, ltb}
+use lib.Dec.{eqb}
 use lib.ListN.{length, getD, set, take, drop, length-append, length-take, length-drop, length-set, take-append-drop}
 use lib.Seq.{drop-drop, take-at, drop-at, length-take-le, set-getD, set-set, getD-set-same}
 use borrow.Author.Tests.{ltb-true, lt-ltb}
 use Rattle.base.specs.Folds.{one, All}
 use Rattle.base.proofs.Tests.{and-l, and-r, and-of, one-lt, one-eqb, eqb-one}
 use Rattle.layout.specs.Number.{Bytes, number, digits}
-use Rattle.layout.specs.Layout.{Layout, part, over, cover, byte, flag, big, pair, iso, items, readItems, writeItems, formedItems}
+use Rattle.layout.specs.Layout.{Layout, part, cover, byte, flag, big, pair, iso, items, readItems, writeItems, formedItems}
 use Rattle.layout.proofs.Parts.{bytes-drop, bytes-take, bytes-append, bytes-set, length-part, length-cover, cover-room, cover-same, cover-again, bytes-cover}
 use Rattle.layout.proofs.Numbers.{length-digits, bytes-digits, number-digits, number-below, digits-number}
 

@@ -1,12 +1,12 @@
 -- Numbers as bytes and back, by induction on the count of bytes.
-use mathlib.Core.Path.{_≡_, refl, sym, ap, _∙_}
+use mathlib.Core.Path.{_≡_, refl, sym, _∙_}
 use Prim.Native.Nat.{ℕ, zero, suc, _+_, _*_, _-_, _/_, _%_, _^_, _≤_, _<_}
 use native.Mathlib.Numerals.{add-one}
 use native.Mathlib.Omega.{arith}
 use native.Mathlib.Nat.{pow-suc, pow-le-pow-right, add-zero, zero-add}
 use mathlib.Core.List.{List, [], _∷_, _++_}
-use lib.ListN.{length, take, drop, getD, set, length-append, length-take}
-use lib.Seq.{drop-cons, set-split, drop-at, take-all, length-take-le, append-snoc}
+use lib.ListN.{length, take, drop, getD, set, length-append}
+use lib.Seq.{drop-cons, set-split, drop-at, length-take-le, append-snoc}
 use Rattle.layout.specs.Number.{Bytes, number, numberFrom, digits}
 use Rattle.layout.proofs.Parts.{bytes-append}
 

@@ -1,11 +1,11 @@
 -- Parts of a list of bytes, and changes of a part: by `take`, `drop` and `++` alone.
-use Prim.Native.Nat.{ℕ, zero, suc, _+_, _*_, _-_, _≤_, _<_}
-use native.Mathlib.Nat.{add-zero, zero-add, add-assoc, suc-add, not-suc-le-zero, le-of-suc-le-suc}
+use Prim.Native.Nat.{ℕ, zero, suc, _+_, _-_, _≤_, _<_}
+use native.Mathlib.Nat.{zero-add, add-assoc, suc-add, not-suc-le-zero, le-of-suc-le-suc}
 use native.Mathlib.Omega.{arith}
-use mathlib.Core.Path.{_≡_, refl, sym, ap, _∙_, subst}
+use mathlib.Core.Path.{_≡_, refl, sym, ap, _∙_}
 use mathlib.Core.List.{List, [], _∷_, _++_, append-assoc}
-use lib.ListN.{length, getD, set, take, drop, length-append, length-take, length-drop, length-set, take-append-drop}
-use lib.Seq.{take-take, drop-drop, take-add, take-at, drop-at, drop-nil, take-nil, length-take-le, getD-take, getD-drop}
+use lib.ListN.{length, set, take, drop, length-drop, take-append-drop}
+use lib.Seq.{take-take, drop-drop, take-add, take-nil, length-take-le, getD-drop}
 use Rattle.layout.specs.Number.{Bytes}
 use Rattle.layout.specs.Layout.{part, over, cover}
 

@@ -3,13 +3,12 @@ use Prim.Native.Nat.{ℕ, zero, suc, _+_, _*_, _≤_, _<_}
 use native.Mathlib.Nat.{le-refl, add-zero, zero-add, add-assoc, zero-mul, suc-mul, add-comm, not-suc-le-zero, le-of-suc-le-suc, le-trans, mul-le-mul-right, suc-add}
 use native.Mathlib.Omega.{arith}
 use mathlib.Core.Path.{_≡_, refl, sym, ap, _∙_, subst}
-use mathlib.Core.Bool.{Bool, true, _&&_}
+use mathlib.Core.Bool.{Bool, _&&_}
 use mathlib.Core.List.{List, [], _∷_, _++_, append-assoc, append-nil}
 use lib.ListN.{length, getD, set, take, drop, length-append, take-append-drop}
 use lib.Seq.{take-take, drop-drop, take-at, drop-at, length-take-le, getD-take, getD-drop}
 use Rattle.base.specs.Folds.{below}
 use Rattle.base.proofs.Folds.{below-none, below-same, below-first}
-use Rattle.layout.specs.Number.{Bytes}
 use Rattle.layout.specs.Layout.{Layout, part, over, byte, pair, iso, items, readItems, writeItems, formedItems}
 use Rattle.layout.proofs.Parts.{drop-take, part-part, over-behind, over-over, length-part}
 use Rattle.layout.proofs.Laws.{Stands, Lawful, stands-first, stands-second, stands-iso, StandItems, stands-item, stand-rest, stand-items, items-unchanged, cut-first, cut-second, cut-rest}

@@ -4,7 +4,7 @@ use mathlib.Core.Bool.{true}
 use mathlib.Core.List.{List, [], _∷_, _++_, append-assoc}
 use Prim.Native.Nat.{ℕ}
 use lib.ListN.{length, length-replicate}
-use Rattle.wire.specs.declared.Step.{Step}
+use Rattle.kinds.specs.declared.Step.{Step}
 use Rattle.protocol.specs.Rack.{Rack, fresh}
 use Rattle.protocol.specs.Sound.{sizes}
 use Rattle.protocol.specs.Rules.{Outcome, refused, accepted, rules}

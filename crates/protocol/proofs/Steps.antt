@@ -13,10 +13,10 @@ use Rattle.refusals.specs.declared.Refusal.{Refusal}
 use Rattle.refusals.specs.declared.Check.{Check}
 use Rattle.refusals.specs.declared.Check.the-variants.{Pass, Refuse}
 use Rattle.refusals.specs.Table.{when_refuse_else_}
-use Rattle.wire.specs.declared.Step.{Step}
-use Rattle.wire.specs.declared.Step.the-variants.{Load, Store, Send, Deliver, Raise, Lower, Forward}
+use Rattle.kinds.specs.declared.Step.{Step}
+use Rattle.kinds.specs.declared.Step.the-variants.{Load, Store, Send, Deliver, Raise, Lower, Forward}
 use Rattle.arbiter.specs.Boards.{places}
-use Rattle.arbiter.specs.Claims.{active, raiseCheck, raised, lowerCheck, lowered}
+use Rattle.arbiter.specs.Claims.{raiseCheck, raised, lowerCheck, lowered}
 use Rattle.arbiter.proofs.Claims.{SoundClaims, raised-sound, lowered-sound, active-known}
 use Rattle.protocol.specs.declared.Message.{Message}
 use Rattle.protocol.specs.declared.Answer.{Answer}
@@ -26,7 +26,7 @@ use Rattle.protocol.specs.Rules.{Outcome, refused, accepted, settled, ch
 use Rattle.protocol.specs.Memory.{Memory, Access, accessed, flat, accessOf, wordsOf}
 use Rattle.base.proofs.Tests.{and-not}
 use Rattle.protocol.proofs.Sound.{Sound, sound-facts, sound-test}
-use Rattle.protocol.proofs.Change.{Coherent, Fits, cell-sound, cell-has}
+use Rattle.protocol.proofs.Change.{Coherent, Fits, cell-has}
 use Rattle.protocol.proofs.Moves.{Moved, sent-keeps, delivered-keeps, forwarded-keeps, claims-keep}
 use Rattle.protocol.proofs.Store.{stored-sound, stored-coherent, stored-fits}
 

@@ -2,7 +2,7 @@
 use Prim.Native.Nat.{ℕ, _<_}
 use mathlib.Core.Path.{_≡_}
 use mathlib.Core.List.{List}
-use Rattle.wire.specs.declared.Step.{Step}
+use Rattle.kinds.specs.declared.Step.{Step}
 use Rattle.protocol.specs.declared.Answer.the-variants.{Done}
 use Rattle.protocol.specs.Rack.{Rack, tokensOf, ownersOf}
 use Rattle.protocol.specs.Rules.{accepted, opening}

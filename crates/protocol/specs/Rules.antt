@@ -10,8 +10,8 @@ use Rattle.refusals.specs.declared.Refusal.the-variants.{OffRack, Home, NoToken
 use Rattle.refusals.specs.declared.Check.{Check}
 use Rattle.refusals.specs.declared.Check.the-variants.{Pass, Refuse}
 use Rattle.refusals.specs.Table.{when_refuse_else_}
-use Rattle.wire.specs.declared.Step.{Step}
-use Rattle.wire.specs.declared.Step.the-variants.{Load, Store, Send, Deliver, Raise, Lower, Forward}
+use Rattle.kinds.specs.declared.Step.{Step}
+use Rattle.kinds.specs.declared.Step.the-variants.{Load, Store, Send, Deliver, Raise, Lower, Forward}
 use Rattle.arbiter.specs.Claims.{Claims, active, unclaimed, raiseCheck, raised, lowerCheck, lowered}
 use Rattle.protocol.specs.declared.Message.{Message}
 use Rattle.protocol.specs.declared.Answer.{Answer}
@@ -168,10 +168,12 @@ rules r s = settled (check r s) (answer r s) (after r s)
 
 -- ---- an opening with N, B and T; the buffer's length is asked for where there is one
 
+-- the first line of its table, and the lines below it
+abbrev pub openingThen : ℕ → ℕ → ℕ → Check → Check
+openingThen n b t rest = when not (sizes n b t) refuse Size else rest
+
 unfoldable pub openingCheck : ℕ → ℕ → ℕ → Check
-openingCheck n b t =
-    when not (sizes n b t) refuse Size else
-    Pass
+openingCheck n b t = openingThen n b t Pass
 
 unfoldable pub opening : ℕ → ℕ → ℕ → Outcome
 opening n b t = settled (openingCheck n b t) Done (fresh n b t)

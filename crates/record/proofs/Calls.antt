@@ -2,27 +2,23 @@
 use Prim.Native.Nat.{ℕ, _≤_, _<_}
 use native.Mathlib.Omega.{arith}
 use mathlib.Core.Path.{_≡_, sym, ap, _∙_, subst}
-use mathlib.Core.Bool.{true}
 use mathlib.Core.List.{List}
 use lib.ListN.{length, length-set}
-use borrow.Author.Tests.{leb-true}
 use Rattle.base.specs.Folds.{All}
-use Rattle.base.proofs.Tests.{and-r}
 use Rattle.base.proofs.Folds.{all-at, all-set}
 use Rattle.layout.specs.Number.{Bytes}
 use Rattle.protocol.specs.declared.Message.{Message}
 use Rattle.protocol.specs.Rack.{Cell, Rack, noCell, noBlock, noMessage, blockAt, cellAt, messageAt}
 use Rattle.protocol.specs.Sound.{sound}
-use Rattle.protocol.proofs.Sound.{Sound, sound-facts}
+use Rattle.protocol.proofs.Sound.{Sound}
 use Rattle.record.specs.Record.{recordLength, get, put}
-use Rattle.record.specs.Sound.{wellFormed, soundBytes}
 use Rattle.record.specs.Needs.{Whole, InCell}
 use Rattle.record.specs.Changes.{withMesh, onCell}
 use Rattle.record.proofs.Parts.{CellFits, MessageFits, BlockFits}
-use Rattle.record.proofs.Record.{Formed, Fits, well-formed, boards-is, blocks-is, mesh-is, law, get-put, put-formed, put-put}
+use Rattle.record.proofs.Record.{Formed, Fits, well-formed, boards-is, blocks-is, get-put, put-formed, put-put}
 use Rattle.record.proofs.Leaves.{formed}
 use Rattle.record.proofs.Holdable.{holdable}
-use Rattle.record.proofs.Live.{rack-sound, words-fit}
+use Rattle.record.proofs.Live.{words-fit}
 
 -- ---- a sound record
 

@@ -1,15 +1,13 @@
 -- Where each figure of the rack stands in a record, by numbers: how it is read, and what bytes change with it.
 use Prim.Native.Nat.{ℕ, zero, suc, _+_, _*_, _-_, _≤_, _<_}
-use native.Mathlib.Nat.{le-refl, le-trans, le-of-eq, mul-le-mul-right, mul-comm, not-suc-le-zero, le-of-suc-le-suc}
+use native.Mathlib.Nat.{le-refl, le-trans, le-of-eq, mul-le-mul-right, not-suc-le-zero, le-of-suc-le-suc}
 use native.Mathlib.Omega.{arith}
 use mathlib.Core.Path.{_≡_, refl, sym, ap, _∙_, subst}
-use mathlib.Core.Bool.{true}
 use mathlib.Core.List.{List, [], _∷_, _++_}
 use lib.ListN.{length, getD, set, take, drop, length-append}
 use lib.Seq.{length-take-le}
 use Rattle.base.specs.Folds.{removed}
-use Rattle.layout.specs.Number.{Bytes}
-use Rattle.layout.specs.Layout.{Layout, part, over, byte, pair, items, readItems, writeItems, formedItems}
+use Rattle.layout.specs.Layout.{Layout, part, over, pair, items, readItems, writeItems}
 use Rattle.layout.proofs.Parts.{bytes-take, over-over, length-part, part-part}
 use Rattle.layout.proofs.Laws.{Stands, StandItems, stand-items, items-unchanged}
 use Rattle.layout.proofs.Places.{Place, item}
@@ -17,12 +15,12 @@ use Rattle.layout.proofs.Copies.{items-more, items-removed}
 use Rattle.arbiter.specs.Claims.{Claims}
 use Rattle.arbiter.specs.ClaimBytes.{claims}
 use Rattle.protocol.specs.declared.Message.{Message}
-use Rattle.protocol.specs.Rack.{Cell, Block, Rack, noMessage, blockAt, cellAt, claimsAt, messageAt}
+use Rattle.protocol.specs.Rack.{Cell, Block, noMessage, cellAt, claimsAt, messageAt}
 use Rattle.protocol.specs.Rules.{withCell, withClaims}
-use Rattle.record.specs.Record.{cell, message, block, Figures, figures, recordLength, fromRack, layoutOf, get, put}
+use Rattle.record.specs.Record.{cell, message, block, figures, layoutOf, get, put}
 use Rattle.record.specs.Changes.{withMesh}
 use Rattle.record.proofs.Parts.{cell-size, message-size, message-lawful, message-full}
-use Rattle.record.proofs.Record.{header, header-lawful, header-read, mesh-place, cell-place, claims-place, Formed, boards-is, blocks-is, tokens-is, mesh-is, stands, read-figure, write-figure, stands-figure, figures-size}
+use Rattle.record.proofs.Record.{header, header-lawful, mesh-place, cell-place, claims-place, Formed, boards-is, blocks-is, tokens-is, mesh-is, stands, read-figure, write-figure, stands-figure}
 
 module _ (s : List ℕ) (ok : Formed s) where
   -- ---- a cell

@@ -1,21 +1,15 @@
 -- A sound rack whose words fit 32 bits is one that a record can hold: its counts are at most T, its sets below 2 ^ 16.
-use Prim.Native.Nat.{ℕ, zero, suc, _+_, _^_, _≤_, _<_}
+use Prim.Native.Nat.{ℕ, zero, suc, _^_, _≤_, _<_}
 use native.Mathlib.Omega.{arith}
-use mathlib.Core.Path.{_≡_, refl, sym, ap, _∙_}
-use mathlib.Core.Bool.{true}
-use mathlib.Core.List.{List, [], _∷_}
 use lib.ListN.{length, getD}
 use borrow.Author.Tests.{leb-true}
 use Rattle.base.specs.Folds.{All}
 use Rattle.base.proofs.Tests.{and-l, and-r}
 use Rattle.base.proofs.Folds.{all-at, all-of}
-use Rattle.layout.proofs.Laws.{Items}
-use Rattle.arbiter.specs.Boards.{places}
 use Rattle.arbiter.specs.Claims.{Claims}
 use Rattle.arbiter.proofs.Boards.{boards-lt}
 use Rattle.arbiter.proofs.Claims.{SoundClaims}
-use Rattle.protocol.specs.declared.Message.{Message}
-use Rattle.protocol.specs.Rack.{Cell, Block, Rack, meshLimit, noCell, noBlock, noMessage, blockAt, cellAt, claimsAt, messageAt}
+use Rattle.protocol.specs.Rack.{Rack, meshLimit, noCell, noBlock, noMessage, blockAt, cellAt, claimsAt}
 use Rattle.protocol.proofs.Sound.{Sound, SoundCell}
 use Rattle.protocol.proofs.Change.{cell-few, message-few, message-sound, Fits}
 use Rattle.record.proofs.Parts.{CellFits, MessageFits, ClaimsFit, BlockFits}

@@ -1,27 +1,27 @@
 -- What the functions on single figures show at their returns: each figure's place in the record, and what loops over bytes and words leave.
-use Prim.Native.Nat.{ℕ, zero, suc, _+_, _*_, _≤_, _<_}
+use Prim.Native.Nat.{ℕ, suc, _+_, _*_, _≤_, _<_}
 use native.Mathlib.Nat.{le-refl}
 use native.Mathlib.Numerals.{add-one}
 use native.Mathlib.Omega.{arith}
-use mathlib.Core.Path.{_≡_, refl, sym, ap, _∙_, subst}
+use mathlib.Core.Path.{_≡_, refl, sym, ap, _∙_}
 use mathlib.Core.Bool.{Bool}
-use mathlib.Core.List.{List, [], _∷_, _++_, append-assoc}
+use mathlib.Core.List.{List, _++_, append-assoc}
 use lib.Dec.{eqb}
 use lib.ListN.{length, getD, set, take, drop, length-drop}
-use lib.Seq.{paste, paste-zero, paste-suc, length-paste, length-paste-head, getD-append-add, getD-drop, take-suc, take-all, length-take-le, ext-getD}
+use lib.Seq.{paste, paste-zero, paste-suc, length-paste-head, getD-append-add, getD-drop, take-suc, take-all, length-take-le, ext-getD}
 use Rattle.layout.specs.Number.{Bytes}
-use Rattle.layout.specs.Layout.{Layout, part, over, big, items, readItems, writeItems}
+use Rattle.layout.specs.Layout.{Layout, part, over, big, readItems, writeItems}
 use Rattle.layout.proofs.Parts.{length-part, part-part}
 use Rattle.layout.proofs.Laws.{big-lawful, items-keeps, length-readItems}
 use Rattle.layout.proofs.Places.{Place, within, first, second, iso-place, item, over-in, item-looks}
 use Rattle.layout.proofs.Copies.{items-more}
-use Rattle.protocol.specs.Rack.{Cell, Block, Rack, noCell, blockAt, cellAt}
-use Rattle.protocol.specs.Rules.{changed, stored}
+use Rattle.protocol.specs.Rack.{Cell, noCell, cellAt}
+use Rattle.protocol.specs.Rules.{stored}
 use Rattle.record.specs.declared.cells.Marks.{Marks}
 use Rattle.record.specs.Record.{tokens, words, load, toCell, fromCell, cell, block, get, put}
 use Rattle.record.specs.Needs.{Whole, InCell}
 use Rattle.record.specs.Changes.{MarksOf, marked, filled, onCell}
-use Rattle.record.proofs.Parts.{tokens-lawful, words-lawful, load-lawful, words-size}
+use Rattle.record.proofs.Parts.{tokens-lawful, words-lawful, words-size}
 use Rattle.record.proofs.Writing.{tokens-read, cell-write}
 use Rattle.record.proofs.Record.{Formed, formed-of, cell-place, read-figure, write-figure}
 use Rattle.record.proofs.Figures.{cell-put}

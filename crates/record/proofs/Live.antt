@@ -1,25 +1,23 @@
 -- A sound record as facts about its rack; and that the record of a sound rack of the same sizes, written over it, is sound again.
-use Prim.Native.Nat.{ℕ, _+_, _*_, _^_, _≤_, _<_}
+use Prim.Native.Nat.{ℕ, _^_, _≤_, _<_}
 use native.Mathlib.Omega.{arith}
-use mathlib.Core.Path.{_≡_, refl, sym, ap, _∙_, subst}
-use mathlib.Core.Bool.{Bool, true, _&&_}
+use mathlib.Core.Path.{_≡_, sym, subst}
+use mathlib.Core.Bool.{true}
 use mathlib.Core.List.{List}
 use lib.ListN.{length, getD}
-use borrow.Author.Tests.{leb-true}
 use Rattle.base.specs.Folds.{All}
 use Rattle.base.proofs.Tests.{and-l, and-r, and-of}
 use Rattle.base.proofs.Folds.{all-at, all-map}
 use Rattle.layout.specs.Number.{Bytes}
-use Rattle.protocol.specs.declared.Message.{Message}
-use Rattle.protocol.specs.Rack.{Cell, Rack, meshLimit, noBlock, blockAt}
+use Rattle.protocol.specs.Rack.{Rack, meshLimit, noBlock, blockAt}
 use Rattle.protocol.specs.Sound.{sound}
 use Rattle.protocol.proofs.Sound.{Sound, sound-facts, sound-test}
 use Rattle.protocol.proofs.Change.{Fits}
-use Rattle.record.specs.Record.{recordLength, layoutOf, get, put}
+use Rattle.record.specs.Record.{recordLength, get, put}
 use Rattle.record.specs.Sound.{wellFormed, soundBytes}
 use Rattle.record.specs.Needs.{Whole}
 use Rattle.record.proofs.Parts.{CellFits, MessageFits, BlockFits}
-use Rattle.record.proofs.Record.{Formed, well-formed, formed-of, law, boards-is, blocks-is, tokens-is, mesh-is, get-put, put-keeps, put-formed, put-behind}
+use Rattle.record.proofs.Record.{Formed, well-formed, formed-of, law, boards-is, blocks-is, mesh-is, get-put, put-formed}
 use Rattle.record.proofs.Holdable.{holdable, boards-low, blocks-low}
 
 pub record Live (s : List ℕ) : Type 0 where

@@ -1,12 +1,10 @@
 -- The parts of the record obey the laws of layouts: each is made by the algebra, so its laws are those of its parts.
-use Prim.Native.Nat.{ℕ, suc, _+_, _*_, _^_, _≤_, _<_, suc-le-suc}
+use Prim.Native.Nat.{ℕ, suc, _^_, _≤_, _<_, suc-le-suc}
 use native.Mathlib.Nat.{le-refl}
-use native.Mathlib.Omega.{arith}
 use mathlib.Core.Path.{_≡_, refl}
 use mathlib.Core.Bool.{Bool}
 use mathlib.Core.List.{List}
-use Rattle.base.specs.Folds.{All}
-use Rattle.layout.specs.Layout.{Layout, byte, flag, big, pair, iso, items}
+use Rattle.layout.specs.Layout.{Layout, byte, big, pair, items}
 use Rattle.layout.proofs.Laws.{Lawful, byte-lawful, flag-lawful, big-lawful, pair-lawful, iso-lawful, items-lawful, Items}
 use Rattle.layout.proofs.Copies.{Full, full-byte, full-flag, full-big, full-pair, full-iso, full-items}
 use Rattle.arbiter.specs.Claims.{Claims}

@@ -1,30 +1,29 @@
 -- The record's laws: what is written is read back, to write what is read changes nothing, a second write covers a first,
 -- and each figure of the rack has a place of its own. All follow from the laws of the parts.
-use Prim.Native.Nat.{ℕ, zero, suc, _+_, _*_, _-_, _≤_, _<_, suc-le-suc}
+use Prim.Native.Nat.{ℕ, suc, _+_, _*_, _-_, _≤_, _<_, suc-le-suc}
 use native.Mathlib.Nat.{le-refl, le-trans, le-of-eq, mul-le-mul-right}
 use native.Mathlib.Omega.{arith}
 use mathlib.Core.Path.{_≡_, refl, sym, ap, _∙_, subst}
-use mathlib.Core.Bool.{Bool, true, _&&_}
-use mathlib.Core.List.{List, [], _∷_, _++_}
+use mathlib.Core.Bool.{true}
+use mathlib.Core.List.{List, [], _∷_}
 use lib.Dec.{leb}
 use lib.ListN.{length, getD, set, take, drop, length-set}
-use lib.Seq.{length-take-le, drop-drop, drop-at}
+use lib.Seq.{length-take-le}
 use borrow.Author.Tests.{leb-true, le-leb}
-use Rattle.base.specs.Folds.{All, removed}
+use Rattle.base.specs.Folds.{All}
 use Rattle.base.proofs.Tests.{and-l, and-r, and-of}
 use Rattle.layout.specs.Number.{Bytes}
 use Rattle.layout.specs.Layout.{Layout, part, over, byte, pair, items}
 use Rattle.layout.proofs.Parts.{length-part}
 use Rattle.layout.proofs.Laws.{Stands, Lawful, byte-lawful, pair-lawful, pair-again, items-again, items-lawful, Items, length-readItems, cut-rest}
 use Rattle.layout.proofs.Places.{Place, within, first, second, iso-place, item}
-use Rattle.arbiter.specs.Claims.{Claims}
 use Rattle.arbiter.specs.ClaimBytes.{claims}
 use Rattle.protocol.specs.declared.Message.{Message}
-use Rattle.protocol.specs.Rack.{Cell, Block, Rack, noCell, noBlock, noMessage, blockAt, cellAt, claimsAt, messageAt}
-use Rattle.protocol.specs.Rules.{changed, withCell, withClaims}
+use Rattle.protocol.specs.Rack.{Block, Rack, noCell, noBlock, blockAt}
+use Rattle.protocol.specs.Rules.{changed}
 use Rattle.record.specs.Record.{cell, message, block, toBlock, fromBlock, Figures, figures, recordLength, toRack, fromRack, layoutOf, get, put}
 use Rattle.record.specs.Sound.{wellFormed}
-use Rattle.record.proofs.Parts.{CellFits, MessageFits, BlockFits, cell-size, message-size, block-size, cell-lawful, message-lawful, cells-lawful, claims-lawful, block-lawful}
+use Rattle.record.proofs.Parts.{MessageFits, BlockFits, cell-size, message-size, block-size, cell-lawful, message-lawful, cells-lawful, claims-lawful, block-lawful}
 
 -- ---- N, B, T and the count of messages
 

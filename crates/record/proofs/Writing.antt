@@ -4,18 +4,17 @@ use native.Mathlib.Nat.{zero-add, suc-add}
 use native.Mathlib.Numerals.{unary-clauses, one-add}
 use native.Mathlib.Omega.{arith}
 use mathlib.Core.Path.{_≡_, refl, sym, ap, _∙_}
-use mathlib.Core.Bool.{Bool, true, _&&_}
-use mathlib.Core.List.{List, [], _∷_, _++_}
-use lib.Dec.{eqb, ltb}
-use lib.ListN.{length, getD, set, take, drop, length-set, take-append-drop}
+use mathlib.Core.Bool.{Bool}
+use mathlib.Core.List.{List, [], _∷_}
+use lib.Dec.{eqb}
+use lib.ListN.{length, getD, set, take, length-set, take-append-drop}
 use Rattle.base.specs.Folds.{one}
-use Rattle.layout.specs.Number.{number, digits}
-use Rattle.layout.specs.Layout.{Layout, part, over, cover, byte, flag, big, pair}
-use Rattle.layout.proofs.Laws.{Lawful, byte-lawful, flag-lawful}
+use Rattle.layout.specs.Number.{number}
+use Rattle.layout.specs.Layout.{part, over, cover, byte, flag, big, pair}
+use Rattle.layout.proofs.Laws.{byte-lawful, flag-lawful}
 use Rattle.layout.proofs.Places.{read-byte, write-byte, read-pair, write-pair}
 use Rattle.protocol.specs.declared.Message.{Message}
-use Rattle.protocol.specs.Rack.{Cell}
-use Rattle.record.specs.Record.{tokens, words, load, toCell, fromCell, cell, toMessage, fromMessage, message}
+use Rattle.record.specs.Record.{tokens, words, load, toCell, cell, fromMessage, message}
 use Rattle.record.proofs.Parts.{ends, ends-lawful, tokens-lawful, load-size, words-size}
 
 -- ---- read

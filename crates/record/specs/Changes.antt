@@ -1,10 +1,9 @@
 -- Document 01, "Steps": the changes of single figures that the steps are made of.
 use Prim.Native.Nat.{ℕ}
 use mathlib.Core.Path.{_≡_}
-use mathlib.Core.Bool.{Bool}
 use mathlib.Core.List.{List}
 use Rattle.protocol.specs.declared.Message.{Message}
-use Rattle.protocol.specs.Rack.{Owner, Cell, Rack, cellAt}
+use Rattle.protocol.specs.Rack.{Cell, Rack}
 use Rattle.protocol.specs.Rules.{withCell}
 use Rattle.record.specs.declared.cells.Marks.{Marks}
 

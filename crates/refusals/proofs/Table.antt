@@ -2,14 +2,14 @@
 -- and that the table's numbers tell the refusals apart.
 use mathlib.Core.Path.{_≡_, refl, sym, ap, _∙_}
 use mathlib.Core.Bool.{Bool, true, false}
-use Prim.Native.Nat.{ℕ, _≤_, _<_}
+use Prim.Native.Nat.{ℕ, _≤_}
 use native.Mathlib.Omega.{arith}
 use mathlib.Core.List.{_∷_, []}
 use lib.ListN.{getD}
 use borrow.Author.Tests.{lt-ltb, le-ltb, le-leb, lt-leb, eq-eqb, ne-eqb}
 use Rattle.base.proofs.Tests.{differs, and-of, and-left, and-right, or-left, or-right, or-none, not-of-false, not-of-true}
 use Rattle.refusals.specs.declared.Check.{Check}
-use Rattle.refusals.specs.declared.Check.the-variants.{Refuse}
+use Rattle.refusals.specs.declared.Check.the-variants.{Pass, Refuse}
 use Rattle.refusals.specs.declared.Refusal.{Refusal}
 use Rattle.refusals.specs.declared.Refusal.the-variants.{Torn, Unsound, OffRack, Home, NoToken, NoData, Short, SelfSend, Claimed, Empty, NotHeld, BareOwner, MeshFull, NoMessage, Waiting, Barred, NotWaiting, Unclaimed, Size, ShortBuffer}
 use Rattle.refusals.specs.Table.{number, when_refuse_else_}
@@ -25,6 +25,12 @@ pub goes : (x : Check) (t : Bool) (n : Refusal) (k : Check) → t ≡ false → 
 unfolding when_refuse_else_
 goes x true n k e h = differs e
 goes x false n k e h = h
+
+-- a line that was passed: its test has failed, and the lines below it have passed
+pub past : (t : Bool) (n : Refusal) (k : Check) → (when t refuse n else k) ≡ Pass → (t ≡ false) × (k ≡ Pass)
+unfolding when_refuse_else_
+past true n k e = let z : _≡_ {A = ℕ} 0 1 = cc in absurd (omega arith)
+past false n k e = (refl, e)
 
 -- a test's result, as a contract has it on the right
 pub is-true : (t : Bool) → t ≡ true → true ≡ t

@@ -1,6 +1,5 @@
 // The refusal table of document 01, the verdict of a run down it, and how an exported entry hands a result over.
 ghost use mathlib.Core.Path.{_≡_};
-ghost use Prim.Native.Nat.{_<_};
 ghost use Rattle.refusals.specs.Table.{number};
 ghost use Rattle.refusals.specs.Packing.{done, refused};
 

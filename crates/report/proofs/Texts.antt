@@ -12,8 +12,8 @@ use lib.Dec.{ltb}
 use borrow.Author.Tests.{lt-ltb, le-ltb}
 use native.Mathlib.Decide.{decLe}
 use Rattle.base.proofs.Lists.{rest-all}
-use Rattle.wire.specs.Writer.{place}
-use Rattle.wire.proofs.Placing.{length-place, place-none, place-more}
+use Rattle.base.specs.Placing.{place}
+use Rattle.base.proofs.Placing.{length-place, place-none, place-more}
 use Rattle.refusals.specs.declared.Refusal.{Refusal}
 use Rattle.refusals.specs.declared.Refusal.the-variants.{Torn}
 use Rattle.refusals.specs.Table.{number}
@@ -21,7 +21,7 @@ use Rattle.protocol.specs.declared.Answer.{Answer}
 use Rattle.protocol.specs.declared.Answer.the-variants.{Done, Word}
 use Rattle.protocol.specs.declared.Reply.{Reply}
 use Rattle.protocol.specs.declared.Reply.the-variants.{Accepted, Refused}
-use Rattle.rack.specs.Entries.{openTold, openAfter}
+use Rattle.opening.specs.Opening.{openTold, openAfter}
 use Rattle.engine.specs.Step.{stepTold, stepAfter}
 use Rattle.engine.specs.Cut.{cutAt, cuts}
 use Rattle.engine.specs.Lists.{replies}

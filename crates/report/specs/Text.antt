@@ -9,7 +9,7 @@ use Rattle.refusals.specs.Table.{number}
 use Rattle.protocol.specs.declared.Answer.the-variants.{Done, Word}
 use Rattle.protocol.specs.declared.Reply.{Reply}
 use Rattle.protocol.specs.declared.Reply.the-variants.{Accepted, Refused}
-use Rattle.rack.specs.Entries.{openTold, openAfter}
+use Rattle.opening.specs.Opening.{openTold, openAfter}
 use Rattle.engine.specs.Cut.{cuts}
 use Rattle.engine.specs.Lists.{replies}
 

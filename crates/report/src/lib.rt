@@ -3,7 +3,7 @@ ghost use mathlib.Core.Path.{_≡_};
 ghost use Prim.Native.Nat.{_+_, _*_, _/_, _≤_, _<_, min};
 ghost use mathlib.Core.List.{[], _∷_};
 ghost use lib.ListN.{length};
-ghost use Rattle.wire.specs.Writer.{place};
+ghost use Rattle.base.specs.Placing.{place};
 ghost use Rattle.engine.specs.Cut.{cuts};
 ghost use Rattle.engine.specs.Lists.{replies};
 ghost use Rattle.report.specs.Text.{digit, decimal, hexadecimal, said, line, lines, text};
@@ -116,7 +116,7 @@ fn put_text(rec: &mut [u8], input: &[u8], out: &mut [u8]) -> usize
     if input.len() < 3 {
         return put_line(out, 0, 0, Reply::Refused(Refusal::Torn));
     }
-    let reply = rack::open::open(rec, wide(input[0]), wide(input[1]), wide(input[2]));
+    let reply = opening::open(rec, wide(input[0]), wide(input[1]), wide(input[2]));
     let at = put_line(out, 0, 0, reply);
     match reply {
         Reply::Accepted(_) => put_steps(rec, &input[3..], out, at),

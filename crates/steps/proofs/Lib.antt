@@ -1,7 +1,1 @@
-pub mod Claimed
 pub mod Made
-pub mod Moves
-pub mod OnRack
-pub mod Passed
-pub mod Tokens
-pub mod Verdicts

@@ -5,8 +5,8 @@ use Prim.Native.Nat.{ℕ}
 use Rattle.refusals.specs.declared.Refusal.{Refusal}
 use Rattle.refusals.specs.declared.Check.{Check}
 use Rattle.refusals.specs.declared.Check.the-variants.{Pass, Refuse}
-use Rattle.wire.specs.declared.Step.{Step}
-use Rattle.wire.specs.declared.Step.the-variants.{Load}
+use Rattle.kinds.specs.declared.Step.{Step}
+use Rattle.kinds.specs.declared.Step.the-variants.{Load}
 use Rattle.protocol.specs.declared.Answer.{Answer}
 use Rattle.protocol.specs.declared.Reply.the-variants.{Accepted, Refused}
 use Rattle.protocol.specs.Rules.{check, answer, after, rules}
@@ -16,7 +16,8 @@ use Rattle.record.specs.Record.{get, put}
 use Rattle.record.specs.Needs.{Whole}
 use Rattle.record.proofs.Record.{put-get}
 use Rattle.record.proofs.Leaves.{formed}
-use Rattle.steps.specs.Apply.{Ready, recordAfter}
+use Rattle.changes.specs.Needs.{Ready}
+use Rattle.steps.specs.Apply.{recordAfter}
 
 pub asked : (s : List ℕ) {t u : Step} → t ≡ u → Ready s × (check (get s) t ≡ Pass) → Ready s × (check (get s) u ≡ Pass)
 asked s e pre = (pre .0, subst (λ (v : Step). check (get s) v ≡ Pass) e (pre .1))

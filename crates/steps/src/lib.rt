@@ -5,14 +5,12 @@ ghost use Rattle.protocol.specs.Rules.{check, answer, after, rules};
 ghost use Rattle.protocol.specs.Memory.{reply};
 ghost use Rattle.record.specs.Record.{get, put};
 ghost use Rattle.record.specs.Needs.{Whole};
-ghost use Rattle.steps.specs.Apply.{Ready, recordAfter};
+ghost use Rattle.changes.specs.Needs.{Ready};
+ghost use Rattle.steps.specs.Apply.{recordAfter};
+use kinds::Step;
 use protocol::Answer;
 use protocol::Reply;
 use refusals::Check;
-use wire::Step;
-
-pub mod changes;
-pub mod checks;
 
 // The verdict of the refusal table on a step.
 pub fn check(rec: &[u8], step: Step) -> Check

@@ -11,15 +11,15 @@ use borrow.Author.Tests.{le-leb, leb-true, eq-eqb, eqb-true}
 use Rattle.base.proofs.Tests.{and-l, and-r, one-eqb}
 use Rattle.base.proofs.Folds.{below-at, below-of}
 use Rattle.refusals.specs.declared.Refusal.the-variants.{Torn}
-use Rattle.wire.specs.declared.Step.{Step}
-use Rattle.wire.specs.declared.Step.the-variants.{Load, Store, Send, Deliver, Raise, Lower, Forward}
-use Rattle.wire.specs.declared.Reading.the-variants.{Step as Read, Refused}
-use Rattle.wire.specs.Kinds.{kindOf, places, kindIn, fit, fits}
-use Rattle.wire.specs.Record.{stepBytes}
-use Rattle.wire.specs.Reader.{readRecord}
+use Rattle.kinds.specs.declared.Step.{Step}
+use Rattle.kinds.specs.declared.Step.the-variants.{Load, Store, Send, Deliver, Raise, Lower, Forward}
+use Rattle.reader.specs.declared.Reading.the-variants.{Step as Read, Refused}
+use Rattle.kinds.specs.Kinds.{kindOf, places, kindIn, fit, fits}
+use Rattle.kinds.specs.Record.{stepBytes}
+use Rattle.reader.specs.Reader.{readRecord}
 use Rattle.wire.specs.Entries.{same, toldBy, told}
-use Rattle.wire.proofs.Table.{places-length}
-use Rattle.wire.proofs.Theorems.{refused-read, read-written, read-fits}
+use Rattle.kinds.proofs.Table.{places-length}
+use Rattle.reader.proofs.Theorems.{refused-read, read-written, read-fits}
 
 step-places : (s : Step) → kindOf (kindIn (places s)) .step (places s) ≡ s
 unfolding places kindOf

@@ -7,13 +7,14 @@ use lib.Dec.{eqb, leb}
 use Rattle.base.specs.Folds.{below}
 use Rattle.refusals.specs.declared.Refusal.the-variants.{Torn, ShortBuffer}
 use Rattle.refusals.specs.Packing.{done, refused}
-use Rattle.wire.specs.declared.Reading.{Reading}
-use Rattle.wire.specs.declared.Reading.the-variants.{Step, Refused}
-use Rattle.wire.specs.declared.Written.{Written}
-use Rattle.wire.specs.declared.Written.the-variants.{Count, Refused as NotWritten}
-use Rattle.wire.specs.Kinds.{places, kindIn, kindOf, fit}
-use Rattle.wire.specs.Record.{stepBytes}
-use Rattle.wire.specs.Writer.{roomFor, written, placed}
+use Rattle.reader.specs.declared.Reading.{Reading}
+use Rattle.reader.specs.declared.Reading.the-variants.{Step, Refused}
+use Rattle.writer.specs.declared.Written.{Written}
+use Rattle.writer.specs.declared.Written.the-variants.{Count, Refused as NotWritten}
+use Rattle.kinds.specs.Kinds.{places, kindIn, kindOf, fit}
+use Rattle.kinds.specs.Record.{stepBytes}
+use Rattle.base.specs.Placing.{roomFor}
+use Rattle.writer.specs.Writer.{written, placed}
 
 -- Reading, where a step's numbers go to the front of `out`: the result, and `out` afterwards.
 unfoldable pub readAnswer : Reading → List ℕ → ℕ

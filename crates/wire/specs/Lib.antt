@@ -1,5 +1,2 @@
-pub mod Kinds
-pub mod Record
-pub mod Reader
-pub mod Writer
+pub mod Trips
 pub mod Entries

@@ -2,14 +2,14 @@
 ghost use mathlib.Core.Path.{_≡_};
 ghost use Prim.Native.Nat.{_≤_};
 ghost use lib.ListN.{length, getD, take};
-ghost use Rattle.wire.specs.Kinds.{kindOf, fit};
-ghost use Rattle.wire.specs.Reader.{readRecord};
-ghost use Rattle.wire.specs.Writer.{place};
+ghost use Rattle.kinds.specs.Kinds.{kindOf, fit};
+ghost use Rattle.reader.specs.Reader.{readRecord};
+ghost use Rattle.base.specs.Placing.{place};
 ghost use Rattle.wire.specs.Entries.{same, told, readAnswer, readAfter, writeAnswer, writeAfter};
-use super::Reading;
-use super::Step;
-use super::Written;
+use kinds::Step;
+use reader::Reading;
 use refusals::Refusal;
+use writer::Written;
 
 // Copies the first twelve numbers to the front of `out`.
 fn copy_twelve(numbers: &[u32], out: &mut [u32])
@@ -48,12 +48,12 @@ fn wide(x: u32) -> u64
 fn places_fit(places: [u32; 12]) -> bool
     ensures { λ r. ⌜ r ≡ fit (kindOf (getD places 0 0) .fields) places ⌝ }
 {
-    let fields = super::tags_of(places[0]);
+    let fields = kinds::tags_of(places[0]);
     let count = fields.count;
     let tags = fields.tags;
     let mut i = 0;
     while i < count {
-        let field = super::field_of(tags[i]);
+        let field = kinds::field_of(tags[i]);
         let tag = field.tag as usize;
         if wide(places[tag]) >= field.limit {
             return false;
@@ -75,8 +75,8 @@ fn told(numbers: &[u32]) -> Reading
     if !places_fit(places) {
         return Reading::Refused(Refusal::Torn);
     }
-    let step = super::step_of(places);
-    if !same_places(super::places_of(step), places) {
+    let step = kinds::step_of(places);
+    if !same_places(kinds::places_of(step), places) {
         return Reading::Refused(Refusal::Torn);
     }
     Reading::Step(step)
@@ -88,12 +88,12 @@ pub extern "C" fn hyl_wire_read(bytes: &[u8], out: &mut [u32]) -> u64
     ensures answer { λ r. ⌜ r ≡ readAnswer (readRecord (now (bytes .entry))) (now (out .entry)) ⌝ }
     ensures buffer { λ r. ⌜ now (out .exit) ≡ readAfter (readRecord (now (bytes .entry))) (now (out .entry)) ⌝ }
 {
-    match super::read(bytes) {
+    match reader::read(bytes) {
         Reading::Step(step) => {
             if out.len() < 12 {
                 return refusals::pack_refused(Refusal::ShortBuffer);
             }
-            let places = super::places_of(step);
+            let places = kinds::places_of(step);
             copy_twelve(&places, out);
             refusals::pack_done(0)
         }
@@ -106,7 +106,7 @@ fn put_told(step: Step, out: &mut [u8], at: usize) -> u64
     ensures answer { λ r. ⌜ r ≡ writeAnswer (Reading.Step step) at (now (out .entry)) ⌝ }
     ensures buffer { λ r. ⌜ now (out .exit) ≡ writeAfter (Reading.Step step) at (now (out .entry)) ⌝ }
 {
-    match super::write(step, out, at) {
+    match writer::write(step, out, at) {
         Written::Count(n) => refusals::pack_done(n as u32),
         Written::Refused(refusal) => refusals::pack_refused(refusal),
     }

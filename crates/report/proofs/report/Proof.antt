@@ -1,5 +1,4 @@
 -- `report::report` meets its contract: the bytes past those that are used do not matter.
-use native.Mathlib.Omega.{arith}
 use Rattle.report.proofs.Texts.{text-used, used-length}
 use borrow.Author.Needs.{needs}
 use Rattle.report.proofs.report.Statement.{statement}

@@ -5,14 +5,15 @@ use Prim.Native.Nat.{ℕ}
 use denote.Ref.{now}
 use Rattle.layout.specs.Number.{Bytes}
 use Rattle.refusals.specs.declared.Refusal.{Refusal}
-use Rattle.wire.specs.declared.Step.{Step}
-use Rattle.wire.specs.declared.Reading.the-variants.{Step as Read, Refused}
-use Rattle.wire.specs.declared.Written.{Written}
-use Rattle.wire.specs.declared.Written.the-variants.{Refused as NotWritten}
-use Rattle.wire.specs.Record.{stepBytes}
-use Rattle.wire.specs.Reader.{readRecord}
-use Rattle.wire.specs.Writer.{written, placed, rewritten, replaced}
-use Rattle.wire.proofs.Theorems.{written-read}
+use Rattle.kinds.specs.declared.Step.{Step}
+use Rattle.reader.specs.declared.Reading.the-variants.{Step as Read, Refused}
+use Rattle.writer.specs.declared.Written.{Written}
+use Rattle.writer.specs.declared.Written.the-variants.{Refused as NotWritten}
+use Rattle.kinds.specs.Record.{stepBytes}
+use Rattle.reader.specs.Reader.{readRecord}
+use Rattle.wire.specs.Trips.{rewritten, replaced}
+use Rattle.writer.specs.Writer.{written, placed}
+use Rattle.reader.proofs.Theorems.{written-read}
 use borrow.Author.Needs.{needs}
 use Rattle.wire.proofs.read_and_written.Statement.{statement}
 use Rattle.wire.proofs.read_and_written.Tie as tie

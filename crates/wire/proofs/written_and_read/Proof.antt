@@ -6,14 +6,18 @@ use mathlib.Core.List.{List}
 use lib.ListN.{length, take, drop}
 use lib.Seq.{length-take-le, take-at}
 use Rattle.refusals.specs.declared.Refusal.{Refusal}
-use Rattle.wire.specs.declared.Step.{Step}
-use Rattle.wire.specs.declared.Written.the-variants.{Count, Refused}
-use Rattle.wire.specs.Record.{stepBytes}
-use Rattle.wire.specs.Reader.{readRecord}
-use Rattle.wire.specs.Writer.{place, written, placed}
-use Rattle.wire.proofs.Placing.{length-place, written-room, placed-room}
-use Rattle.wire.proofs.Machine.{step-fits}
-use Rattle.wire.proofs.Theorems.{refused-count, record-length, written-count, read-written}
+use Rattle.kinds.specs.declared.Step.{Step}
+use Rattle.writer.specs.declared.Written.the-variants.{Count, Refused}
+use Rattle.kinds.specs.Record.{stepBytes}
+use Rattle.reader.specs.Reader.{readRecord}
+use Rattle.base.specs.Placing.{place}
+use Rattle.writer.specs.Writer.{written, placed}
+use Rattle.base.proofs.Placing.{length-place}
+use Rattle.writer.proofs.Writing.{written-room, placed-room}
+use Rattle.kinds.proofs.Machine.{step-fits}
+use Rattle.writer.proofs.Writing.{refused-count, written-count}
+use Rattle.kinds.proofs.Sizes.{record-length}
+use Rattle.reader.proofs.Theorems.{read-written}
 use borrow.Author.Needs.{needs}
 use Rattle.wire.proofs.written_and_read.Statement.{statement}
 use Rattle.wire.proofs.written_and_read.Tie as tie

@@ -1,6 +1,5 @@
 -- `record::mesh::message_at` meets its contract: the message as its bytes have it.
-use mathlib.Core.List.{List}
-use Prim.Native.Nat.{ℕ, _+_, _*_}
+use Prim.Native.Nat.{_+_, _*_}
 use mathlib.Core.Path.{sym, ap, _∙_}
 use Rattle.record.proofs.Leaves.{formed}
 use Rattle.record.proofs.Writing.{messageFrom}

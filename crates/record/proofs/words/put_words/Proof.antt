@@ -5,9 +5,7 @@ use Rattle.layout.specs.Layout.{over, big, writeItems}
 use Rattle.record.proofs.Leaves.{lined-more, lined-all}
 use mathlib.Core.Path.{_≡_, refl, sym, ap, _∙_}
 use lib.ListN.{length, getD, take}
-use mathlib.Core.List.{List}
-use Prim.Native.Nat.{ℕ, _≤_, _-_, _+_, _*_}
-use native.Mathlib.Omega.{arith}
+use Prim.Native.Nat.{_≤_, _-_, _+_, _*_}
 use Rattle.record.proofs.words.put_words.Statement.{statement}
 use Rattle.record.proofs.words.put_words.Tie as tie
 

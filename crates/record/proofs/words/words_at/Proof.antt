@@ -4,7 +4,7 @@ use borrow.Author.Needs.{needs}
 -- `record::words::words_at` meets its contract. The invariant: the first i words are read.
 use Rattle.layout.specs.Layout.{big, part}
 use Rattle.record.proofs.Leaves.{words-read}
-use mathlib.Core.Path.{_≡_, refl, sym, ap, _∙_}
+use mathlib.Core.Path.{_≡_, sym, ap, _∙_}
 use lib.ListN.{length, getD}
 use Prim.Native.Nat.{ℕ, _≤_, _<_, _-_, _+_, _*_}
 use native.Mathlib.Omega.{arith}

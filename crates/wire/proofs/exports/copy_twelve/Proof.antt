@@ -7,7 +7,7 @@ use denote.Ref.{now}
 use mathlib.Core.List.{List, _++_}
 use lib.ListN.{length, getD, take, drop, set, length-set}
 use lib.Seq.{drop-cons, take-suc, set-at, append-snoc, length-take-le}
-use Rattle.wire.specs.Writer.{place}
+use Rattle.base.specs.Placing.{place}
 use Rattle.wire.proofs.exports.copy_twelve.Statement.{statement}
 use Rattle.wire.proofs.exports.copy_twelve.Tie as tie
 

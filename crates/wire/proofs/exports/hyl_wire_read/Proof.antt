@@ -9,14 +9,14 @@ use borrow.Author.Tests.{le-leb, lt-leb}
 use Rattle.refusals.specs.declared.Refusal.{Refusal}
 use Rattle.refusals.specs.declared.Refusal.the-variants.{ShortBuffer}
 use Rattle.refusals.specs.Packing.{done, refused}
-use Rattle.wire.specs.declared.Step.{Step}
-use Rattle.wire.specs.declared.Reading.{Reading}
-use Rattle.wire.specs.declared.Reading.the-variants.{Step as Read, Refused}
-use Rattle.wire.specs.Kinds.{places}
-use Rattle.wire.specs.Writer.{place}
+use Rattle.kinds.specs.declared.Step.{Step}
+use Rattle.reader.specs.declared.Reading.{Reading}
+use Rattle.reader.specs.declared.Reading.the-variants.{Step as Read, Refused}
+use Rattle.kinds.specs.Kinds.{places}
+use Rattle.base.specs.Placing.{place}
 use Rattle.wire.specs.Entries.{readAnswer, readAfter}
-use Rattle.wire.proofs.Table.{places-length}
-use Rattle.wire.proofs.Placing.{placed-room, placed-short}
+use Rattle.kinds.proofs.Table.{places-length}
+use Rattle.writer.proofs.Writing.{placed-room, placed-short}
 use borrow.Author.Needs.{needs}
 use Rattle.wire.proofs.exports.hyl_wire_read.Statement.{statement}
 use Rattle.wire.proofs.exports.hyl_wire_read.Tie as tie

@@ -1,5 +1,5 @@
 -- `wire::exports::hyl_wire_write` meets its contract: the step that the numbers tell is written, or the refusal handed on.
-use mathlib.Core.Path.{_≡_, refl, sym, _∙_}
+use mathlib.Core.Path.{refl, sym, _∙_}
 use borrow.Author.Needs.{needs}
 use Rattle.wire.specs.Entries.{writeAnswer, writeAfter}
 use Rattle.wire.proofs.exports.hyl_wire_write.Statement.{statement}

@@ -9,10 +9,10 @@ use lib.Seq.{length-take-le, getD-take}
 use lib.Dec.{ltb}
 use borrow.Author.Needs.{needs}
 use borrow.Author.Tests.{lt-ltb, le-ltb}
-use Rattle.wire.specs.declared.Field.{Field}
-use Rattle.wire.specs.Kinds.{fieldOf, get, fit}
+use Rattle.kinds.specs.declared.Field.{Field}
+use Rattle.kinds.specs.Kinds.{fieldOf, get, fit}
 use Rattle.base.proofs.Lists.{map-next}
-use Rattle.wire.proofs.Table.{tag-small}
+use Rattle.kinds.proofs.Table.{tag-small}
 use Rattle.wire.proofs.exports.places_fit.Statement.{statement}
 use Rattle.wire.proofs.exports.places_fit.Tie as tie
 

@@ -2,9 +2,10 @@
 use mathlib.Core.Path.{sym, ap, _∙_}
 use native.Mathlib.Omega.{arith}
 use denote.Ref.{now}
-use Rattle.wire.specs.Record.{stepBytes}
+use Rattle.kinds.specs.Record.{stepBytes}
 use Rattle.wire.specs.Entries.{writtenAnswer, writeAnswer, writeAfter}
-use Rattle.wire.proofs.Theorems.{record-length, written-count}
+use Rattle.kinds.proofs.Sizes.{record-length}
+use Rattle.writer.proofs.Writing.{written-count}
 use borrow.Author.Needs.{needs}
 use Rattle.wire.proofs.exports.put_told.Statement.{statement}
 use Rattle.wire.proofs.exports.put_told.Tie as tie

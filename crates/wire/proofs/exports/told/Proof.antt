@@ -1,5 +1,5 @@
 -- `wire::exports::told` meets its contract: the tests of `told`, one after the other.
-use mathlib.Core.Path.{_≡_, refl, sym, _∙_}
+use mathlib.Core.Path.{_≡_, sym, _∙_}
 use Prim.Native.Nat.{ℕ, _≤_, _<_}
 use native.Mathlib.Omega.{arith}
 use mathlib.Core.Bool.{Bool, true, false, not}
@@ -8,10 +8,10 @@ use lib.ListN.{length, take, replicate}
 use lib.Seq.{length-take-le}
 use borrow.Author.Tests.{le-leb, lt-leb, not-true, not-false}
 use Rattle.refusals.specs.declared.Refusal.the-variants.{Torn}
-use Rattle.wire.specs.declared.Step.{Step}
-use Rattle.wire.specs.declared.Reading.the-variants.{Step as Read, Refused}
-use Rattle.wire.specs.Kinds.{kindOf, places, kindIn, fit}
-use Rattle.wire.specs.Writer.{place}
+use Rattle.kinds.specs.declared.Step.{Step}
+use Rattle.reader.specs.declared.Reading.the-variants.{Step as Read, Refused}
+use Rattle.kinds.specs.Kinds.{kindOf, places, kindIn, fit}
+use Rattle.base.specs.Placing.{place}
 use Rattle.wire.specs.Entries.{same, toldBy, told}
 use borrow.Author.Needs.{needs}
 use Rattle.wire.proofs.exports.told.Statement.{statement}

@@ -1,0 +1,23 @@
+-- Document 01, "Steps": what a change asks of the record, and what the taking of tokens and the making of a message ask of a send or a forward,
+-- whose checks give it.
+use Prim.Native.Nat.{ℕ, _≤_, _<_}
+use mathlib.Core.Path.{_≡_}
+use mathlib.Core.Bool.{true}
+use mathlib.Core.List.{List}
+use lib.ListN.{getD}
+use Rattle.protocol.specs.Rack.{cellAt}
+use Rattle.record.specs.Record.{get}
+use Rattle.record.specs.Sound.{soundBytes}
+use Rattle.record.specs.Needs.{Whole, InCell}
+
+-- a sound record, and what follows from that for its places
+pub record Ready (s : List ℕ) : Type 0 where
+  pub sound : soundBytes s ≡ true
+  pub whole : Whole s
+
+-- p plain tokens of block b at component c of the record s, and room in the mesh
+pub record CanSend (s : List ℕ) (c b p : ℕ) : Type 0 where
+  pub ready : Ready s
+  pub in-cell : InCell s b c
+  pub enough : p ≤ cellAt (get s) b c .plain
+  pub room : getD s 3 0 < 64

@@ -1,0 +1,2 @@
+pub mod FreshBytes
+pub mod Opened

@@ -1,0 +1,4 @@
+pub mod Fields
+pub mod Trips
+pub mod Bodies
+pub mod Theorems

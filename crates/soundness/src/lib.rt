@@ -1,0 +1,191 @@
+// Whether the record at the front of a buffer is sound, decided in one pass over its figures.
+ghost use mathlib.Core.Path.{_≡_};
+ghost use mathlib.Core.Bool.{true};
+ghost use Prim.Native.Nat.{ℕ, _+_, _*_, _≤_, _<_};
+ghost use lib.ListN.{length, getD, replicate};
+ghost use lib.Dec.{eqb};
+ghost use Rattle.base.specs.Folds.{below, every};
+ghost use Rattle.layout.specs.Layout.{part};
+ghost use Rattle.protocol.specs.Sound.{sizes};
+ghost use Rattle.record.specs.Record.{words, recordLength};
+ghost use Rattle.record.specs.Sound.{soundBytes};
+ghost use Rattle.soundness.specs.Deciding.{marksFine, cellFine, endsFine, messageFine, weightAt, flying, resting, blockFine};
+use arbiter::claim_bytes;
+use base::both;
+use base::wide;
+use record::sizes;
+
+// Whether some cells are fine, and their weight.
+pub struct Tally {
+    pub fine: bool,
+    pub weight: u32,
+}
+
+// The weight of the plain count and the owner at a place.
+fn weight(rec: &[u8], at: usize) -> u32
+    requires { ⌜ at + 2 ≤ length (now rec) ⌝ }
+    ensures { λ r. ⌜ (r ≡ weightAt (now (rec .entry)) at) × (r ≤ 16712190) ⌝ }
+{
+    wide(rec[at]) + wide(rec[at + 1]) * 65537
+}
+
+// Whether the owner's mark and the valid mark (of a message: data) are 0 or 1, and the owner stands only beside the other.
+fn marks_fine(owner: u8, valid: u8) -> bool
+    ensures { λ r. ⌜ r ≡ marksFine owner valid ⌝ }
+{
+    both(owner <= valid, valid < 2)
+}
+
+// Whether the cell at a place is formed and sound.
+fn cell_fine(rec: &[u8], at: usize) -> bool
+    requires { ⌜ at + 35 ≤ length (now rec) ⌝ }
+    ensures { λ r. ⌜ r ≡ cellFine (now (rec .entry)) at ⌝ }
+{
+    let plain = rec[at];
+    let owner = rec[at + 1];
+    let valid = rec[at + 2];
+    let held = wide(plain) + wide(owner);
+    both(marks_fine(owner, valid), wide(valid) <= held)
+}
+
+// The first cells of a block.
+fn cells(rec: &[u8], at: usize, count: usize) -> Tally
+    requires { ⌜ (count ≤ 16) × (at + 560 ≤ length (now rec)) ⌝ }
+    ensures fine { λ r. ⌜ r .fine ≡ below count (λ c. cellFine (now (rec .entry)) (at + 35 * c)) ⌝ }
+    ensures weight { λ r. ⌜ (r .weight ≡ resting (now (rec .entry)) at count) × (r .weight ≤ 267395040) ⌝ }
+{
+    let mut fine = true;
+    let mut sum: u32 = 0;
+    let mut c: usize = 0;
+    while c < count {
+        let place = at + 35 * c;
+        fine = both(cell_fine(rec, place), fine);
+        sum = weight(rec, place) + sum;
+        c += 1;
+    }
+    Tally { fine, weight: sum }
+}
+
+// Whether the eight words from a place on are all 0.
+fn words_clear(rec: &[u8], at: usize) -> bool
+    requires { ⌜ at + 32 ≤ length (now rec) ⌝ }
+    ensures { λ r. ⌜ r ≡ every (eqb 0) (words .read (part at 32 (now (rec .entry)))) ⌝ }
+{
+    let mut clear = true;
+    let mut i: usize = 0;
+    while i < 32 {
+        clear = both(rec[at + i] == 0, clear);
+        i += 1;
+    }
+    clear
+}
+
+// Whether a message's ends are known and differ, and its block is known.
+fn ends_fine(rec: &[u8], at: usize, boards: u8, blocks: u8) -> bool
+    requires { ⌜ at + 3 ≤ length (now rec) ⌝ }
+    ensures { λ r. ⌜ r ≡ endsFine boards blocks (now (rec .entry)) at ⌝ }
+{
+    let sender = rec[at];
+    let target = rec[at + 1];
+    let block = rec[at + 2];
+    both(
+        both(sender <= boards, target <= boards),
+        both(sender != target, block < blocks),
+    )
+}
+
+// Whether the message at a place is formed and sound.
+fn message_fine(rec: &[u8], at: usize, boards: u8, blocks: u8) -> bool
+    requires { ⌜ at + 38 ≤ length (now rec) ⌝ }
+    ensures { λ r. ⌜ r ≡ messageFine boards blocks (now (rec .entry)) at ⌝ }
+{
+    let ends = ends_fine(rec, at, boards, blocks);
+    let plain = rec[at + 3];
+    let owner = rec[at + 4];
+    let data = rec[at + 5];
+    let carried = wide(plain) + wide(owner);
+    let fine = both(both(marks_fine(owner, data), 0 < carried), ends);
+    if data == 1 {
+        return fine;
+    }
+    both(fine, words_clear(rec, at + 6))
+}
+
+// Whether the messages are fine; where they are, each block's weight in them is added to its sum.
+fn mesh_fine(rec: &[u8], boards: u8, blocks: u8, count: usize, sums: &mut [u32; 32]) -> bool
+    requires { ⌜ (blocks ≤ 32) × (count ≤ 64) × (2436 ≤ length (now rec)) × (now sums ≡ replicate 32 0) ⌝ }
+    ensures fine { λ r. ⌜ r ≡ below count (λ i. messageFine boards blocks (now (rec .entry)) (4 + 38 * i)) ⌝ }
+    ensures sums { λ r. ⌜ (r ≡ true → (k : ℕ) → k < 32 → (getD (now (sums .exit)) k 0 ≡ flying (now (rec .entry)) count k)) ⌝ }
+{
+    let mut i: usize = 0;
+    while i < count {
+        let at = 4 + 38 * i;
+        if !message_fine(rec, at, boards, blocks) {
+            return false;
+        }
+        let block = rec[at + 2] as usize;
+        sums[block] = weight(rec, at + 3) + sums[block];
+        i += 1;
+    }
+    true
+}
+
+// Whether the block at a place is sound, of which the mesh has a weight.
+fn block_fine(rec: &[u8], at: usize, boards: u8, tokens: u8, mesh: u32) -> bool
+    requires { ⌜ (boards < 16) × (at + 592 ≤ length (now rec)) × (mesh ≤ 1069580160) ⌝ }
+    ensures { λ r. ⌜ r ≡ blockFine boards tokens (now (rec .entry)) at mesh ⌝ }
+{
+    let t = cells(rec, at, wide(boards) as usize + 1);
+    let sum = t.weight + mesh;
+    let claims = claim_bytes::sound_at(rec, at + 560, boards);
+    both(both(t.fine, sum == wide(tokens) + 65536), claims)
+}
+
+// Whether every block is sound.
+fn blocks_fine(rec: &[u8], boards: u8, tokens: u8, count: usize, sums: &[u32; 32]) -> bool
+    requires { ⌜ (boards < 16) × (count ≤ 32) × (recordLength count ≤ length (now rec)) × ((k : ℕ) → k < 32 → getD (now sums) k 0 ≤ 1069580160) ⌝ }
+    ensures { λ r. ⌜ r ≡ below count (λ b. blockFine boards tokens (now (rec .entry)) (2436 + 592 * b) (getD (now (sums .entry)) b 0)) ⌝ }
+{
+    let mut fine = true;
+    let mut b: usize = 0;
+    while b < count {
+        fine = both(
+            block_fine(rec, 2436 + 592 * b, boards, tokens, sums[b]),
+            fine,
+        );
+        b += 1;
+    }
+    fine
+}
+
+// Whether the sizes are in range.
+fn sizes_fine(boards: u8, blocks: u8, tokens: u8) -> bool
+    ensures { λ r. ⌜ r ≡ sizes boards blocks tokens ⌝ }
+{
+    sizes::in_range(wide(boards), wide(blocks), wide(tokens))
+}
+
+// Whether the buffer holds a sound record.
+pub fn sound(rec: &[u8]) -> bool
+    ensures { λ r. ⌜ r ≡ soundBytes (now (rec .entry)) ⌝ }
+{
+    if rec.len() < 4 {
+        return false;
+    }
+    let boards = rec[0];
+    let blocks = rec[1];
+    let tokens = rec[2];
+    let messages = rec[3];
+    if !both(sizes_fine(boards, blocks, tokens), messages <= 64) {
+        return false;
+    }
+    let count = wide(blocks) as usize;
+    if rec.len() < 2436 + 592 * count {
+        return false;
+    }
+    let mut sums = [0u32; 32];
+    if !mesh_fine(rec, boards, blocks, wide(messages) as usize, &mut sums) {
+        return false;
+    }
+    blocks_fine(rec, boards, tokens, count, &sums)
+}

@@ -1,0 +1,102 @@
+// Step records: the writer. specs/Writer.antt says what it places for every step, buffer and offset.
+ghost use mathlib.Core.Path.{_≡_};
+ghost use Prim.Native.Nat.{_≤_};
+ghost use mathlib.Core.List.{map};
+ghost use lib.ListN.{length};
+ghost use Rattle.base.specs.Placing.{place};
+ghost use Rattle.kinds.specs.Kinds.{fieldOf};
+ghost use Rattle.kinds.specs.Record.{size, sizes, fieldBytes, bodyBytes, recordBytes, stepBytes};
+ghost use Rattle.writer.specs.Writer.{written, placed};
+use kinds::Field;
+use kinds::Step;
+use refusals::Refusal;
+
+// What writing a step gives: the count of bytes placed, or a refusal.
+pub enum Written {
+    Count(usize),
+    Refused(Refusal),
+}
+
+// Places a field with its value at the front of `out`, and gives its size.
+fn put_field(out: &mut [u8], field: Field, value: u32) -> usize
+    requires { ⌜ size field ≤ length (now out) ⌝ }
+    ensures { λ r. ⌜ (r ≡ size field) × (now (out .exit) ≡ place 0 (fieldBytes field value) (now (out .entry))) ⌝ }
+{
+    let width = field.width;
+    let end = 3 + width;
+    out[0] = field.tag;
+    kinds::put_number(&mut out[1..3], width as u64);
+    kinds::put_number(&mut out[3..end], value as u64);
+    end
+}
+
+// Places fields with these tags, one after the other, at the front of `out`.
+fn put_fields(out: &mut [u8], tags: &[u8], places: &[u32; 12])
+    requires { ⌜ sizes (map fieldOf (now tags)) ≤ length (now out) ⌝ }
+    ensures { λ _. ⌜ now (out .exit) ≡ place 0 (bodyBytes (map fieldOf (now (tags .entry))) (now (places .entry))) (now (out .entry)) ⌝ }
+{
+    let mut at = 0;
+    let mut i = 0;
+    while i < tags.len() {
+        let field = kinds::field_of(tags[i]);
+        let tag = field.tag as usize;
+        at += put_field(&mut out[at..], field, places[tag]);
+        i += 1;
+    }
+}
+
+// The count of bytes that fields with these tags take.
+fn fields_size(tags: &[u8]) -> usize
+    requires { ⌜ length (now tags) ≤ 6 ⌝ }
+    ensures { λ r. ⌜ r ≡ sizes (map fieldOf (now (tags .entry))) ⌝ }
+{
+    let mut sum = 0;
+    let mut i = 0;
+    while i < tags.len() {
+        let field = kinds::field_of(tags[i]);
+        sum += 3 + field.width;
+        i += 1;
+    }
+    sum
+}
+
+// Places a record at the front of `out`, where there is room.
+fn put_record(out: &mut [u8], kind: u8, tags: &[u8], places: &[u32; 12]) -> Written
+    requires { ⌜ length (now tags) ≤ 6 ⌝ }
+    ensures answer { λ r. ⌜ r ≡ written (recordBytes kind (bodyBytes (map fieldOf (now (tags .entry))) (now (places .entry)))) 0 (now (out .entry)) ⌝ }
+    ensures buffer { λ r. ⌜ now (out .exit) ≡ placed (recordBytes kind (bodyBytes (map fieldOf (now (tags .entry))) (now (places .entry)))) 0 (now (out .entry)) ⌝ }
+{
+    let body = fields_size(tags);
+    let total = 3 + body;
+    if out.len() < total {
+        return Written::Refused(Refusal::ShortBuffer);
+    }
+    out[0] = kind;
+    kinds::put_number(&mut out[1..3], body as u64);
+    put_fields(&mut out[3..], tags, places);
+    Written::Count(total)
+}
+
+// Places the record of a step at the front of `out`, where there is room.
+fn put_step(step: Step, out: &mut [u8]) -> Written
+    ensures answer { λ r. ⌜ r ≡ written (stepBytes step) 0 (now (out .entry)) ⌝ }
+    ensures buffer { λ r. ⌜ now (out .exit) ≡ placed (stepBytes step) 0 (now (out .entry)) ⌝ }
+{
+    let places = kinds::places_of(step);
+    let kind = places[0];
+    let fields = kinds::tags_of(kind);
+    let count = fields.count;
+    let tags = fields.tags;
+    put_record(out, kind as u8, &tags[..count], &places)
+}
+
+// Places the record of a step into `out` from the offset `at` on. Where `out` ends too early, nothing changes.
+pub fn write(step: Step, out: &mut [u8], at: usize) -> Written
+    ensures answer { λ r. ⌜ r ≡ written (stepBytes step) at (now (out .entry)) ⌝ }
+    ensures buffer { λ r. ⌜ now (out .exit) ≡ placed (stepBytes step) at (now (out .entry)) ⌝ }
+{
+    if out.len() < at {
+        return Written::Refused(Refusal::ShortBuffer);
+    }
+    put_step(step, &mut out[at..])
+}
