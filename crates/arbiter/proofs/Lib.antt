@@ -2,4 +2,3 @@ pub mod Boards
 pub mod Words
 pub mod Claims
 pub mod Bypass
-pub mod ClaimBytes

@@ -1,4 +1,3 @@
 pub mod Boards
 pub mod Claims
 pub mod Moves
-pub mod ClaimBytes

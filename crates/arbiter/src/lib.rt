@@ -1,3 +1,2 @@
 // Arbitration of claims on a block: sets of boards, and the rules for raising and lowering a claim on the record's bytes.
-pub mod claim_bytes;
 pub mod sets;

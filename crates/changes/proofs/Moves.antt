@@ -18,7 +18,7 @@ use Rattle.protocol.specs.Rules.{withCell, less, more, message, sent, delivered
 use Rattle.base.proofs.Tests.{cond-of}
 use Rattle.protocol.proofs.Sound.{Sound}
 use Rattle.protocol.proofs.Change.{message-sound, cell-few, message-few}
-use Rattle.record.specs.declared.cells.Marks.{Marks}
+use Rattle.record.specs.declared.Marks.{Marks}
 use Rattle.record.specs.Record.{get, put}
 use Rattle.record.specs.Needs.{InCell}
 use Rattle.record.specs.Changes.{MarksOf, marked, filled, onCell, withMesh}

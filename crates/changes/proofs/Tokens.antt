@@ -7,7 +7,7 @@ use Rattle.base.specs.Folds.{one}
 use Rattle.protocol.specs.declared.Message.{Message}
 use Rattle.protocol.specs.Rack.{Cell}
 use Rattle.protocol.specs.Rules.{less, more}
-use Rattle.record.specs.declared.cells.Marks.{Marks}
+use Rattle.record.specs.declared.Marks.{Marks}
 use Rattle.record.specs.Changes.{MarksOf}
 
 module _ (marks : Marks) (x : Cell) (told : MarksOf x marks) where

@@ -9,15 +9,12 @@ ghost use Rattle.record.specs.Record.{get, put};
 ghost use Rattle.record.specs.Needs.{InCell};
 ghost use Rattle.record.specs.Changes.{MarksOf};
 ghost use Rattle.changes.specs.Needs.{Ready, CanSend};
-use arbiter::claim_bytes;
 use base::both;
 use base::either;
 use kinds::Step;
 use protocol::Answer;
 use protocol::Message;
-use record::cells;
-use record::cells::Marks;
-use record::mesh;
+use record::Marks;
 
 pub fn load(rec: &[u8], component: u8, block: u8, word: u8) -> Answer
     requires { ⌜ Ready (now rec) × (check (get (now rec)) (Step.Load component block word) ≡ Pass) ⌝ }
@@ -139,7 +136,7 @@ pub fn raise(rec: &mut [u8], component: u8, block: u8)
     requires { ⌜ Ready (now rec) × (check (get (now rec)) (Step.Raise component block) ≡ Pass) ⌝ }
     ensures { λ r. ⌜ now (rec .exit) ≡ put (after (get (now (rec .entry))) (Step.Raise component block)) (now (rec .entry)) ⌝ }
 {
-    claim_bytes::raise_at(rec, checks::claims_place(block), component);
+    claims::raise_at(rec, checks::claims_place(block), component);
 }
 
 pub fn lower(rec: &mut [u8], component: u8, block: u8)
@@ -147,14 +144,14 @@ pub fn lower(rec: &mut [u8], component: u8, block: u8)
     ensures { λ r. ⌜ now (rec .exit) ≡ put (after (get (now (rec .entry))) (Step.Lower component block)) (now (rec .entry)) ⌝ }
 {
     let boards = rec[0];
-    claim_bytes::lower_at(rec, checks::claims_place(block), boards, component);
+    claims::lower_at(rec, checks::claims_place(block), boards, component);
 }
 
 pub fn forward(rec: &mut [u8], component: u8, block: u8)
     requires { ⌜ Ready (now rec) × (check (get (now rec)) (Step.Forward component block) ≡ Pass) ⌝ }
     ensures { λ r. ⌜ now (rec .exit) ≡ put (after (get (now (rec .entry))) (Step.Forward component block)) (now (rec .entry)) ⌝ }
 {
-    let target = claim_bytes::active_at(rec, checks::claims_place(block));
+    let target = claims::active_at(rec, checks::claims_place(block));
     let marks = cells::marks_of(rec, block, component);
     dispatch(
         rec,

@@ -7,8 +7,8 @@ use lib.ListN.{length, getD}
 use Rattle.layout.specs.Number.{Bytes}
 use Rattle.layout.specs.Layout.{part, over}
 use Rattle.arbiter.specs.Claims.{Claims}
-use Rattle.arbiter.specs.ClaimBytes.{claims, putClaims}
-use Rattle.arbiter.specs.ClaimBytes as bytes-of
+use Rattle.claims.specs.ClaimBytes.{claims, putClaims}
+use Rattle.claims.specs.ClaimBytes as bytes-of
 use Rattle.protocol.specs.Rack.{claimsAt}
 use Rattle.protocol.specs.Rules.{withClaims}
 use Rattle.record.specs.Record.{get, put}

@@ -12,7 +12,7 @@ use Rattle.layout.specs.Number.{Bytes}
 use Rattle.layout.specs.Layout.{part}
 use Rattle.refusals.specs.declared.Check.{Check}
 use Rattle.arbiter.specs.Claims.{Claims}
-use Rattle.arbiter.specs.ClaimBytes.{claims}
+use Rattle.claims.specs.ClaimBytes.{claims}
 use Rattle.protocol.specs.Rack.{meshLimit, claimsAt}
 use Rattle.protocol.specs.Rules.{offRack, meshFull}
 use Rattle.record.specs.Record.{get}

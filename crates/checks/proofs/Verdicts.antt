@@ -19,7 +19,7 @@ use Rattle.arbiter.specs.Boards.{lowest}
 use Rattle.arbiter.specs.Claims.{Claims, waiting, active, unclaimed, raiseCheck, lowerCheck}
 use Rattle.protocol.specs.Rack.{Cell, Rack, claimsAt, cellAt, held}
 use Rattle.protocol.specs.Rules.{check, offRack, meshFull}
-use Rattle.record.specs.declared.cells.Marks.{Marks}
+use Rattle.record.specs.declared.Marks.{Marks}
 use Rattle.record.specs.Changes.{MarksOf}
 use Rattle.checks.specs.Clear.{Clear}
 

@@ -12,13 +12,11 @@ ghost use Rattle.record.specs.Record.{get};
 ghost use Rattle.record.specs.Needs.{Whole};
 ghost use Rattle.record.specs.Changes.{MarksOf};
 ghost use Rattle.checks.specs.Clear.{Clear};
-use arbiter::claim_bytes;
 use arbiter::sets;
 use base::both;
 use base::wide;
 use kinds::Step;
-use record::cells;
-use record::cells::Marks;
+use record::Marks;
 use refusals::Check;
 use refusals::Refusal;
 
@@ -80,7 +78,7 @@ fn waiting(rec: &[u8], block: u8) -> u16
     requires { ⌜ Whole (now rec) × (block < getD (now rec) 1 0) ⌝ }
     ensures { λ r. ⌜ r ≡ waiting (claimsAt (get (now (rec .entry))) block) ⌝ }
 {
-    claim_bytes::waiting_at(rec, claims_place(block))
+    claims::waiting_at(rec, claims_place(block))
 }
 
 // Whether 64 messages are in flight.
@@ -202,7 +200,7 @@ pub fn raise(rec: &[u8], component: u8, block: u8) -> Check
     if at_home(component) {
         return Check::Refuse(Refusal::Home);
     }
-    claim_bytes::raise_check(rec, claims_place(block), component)
+    claims::raise_check(rec, claims_place(block), component)
 }
 
 pub fn lower(rec: &[u8], component: u8, block: u8) -> Check
@@ -215,7 +213,7 @@ pub fn lower(rec: &[u8], component: u8, block: u8) -> Check
     if at_home(component) {
         return Check::Refuse(Refusal::Home);
     }
-    claim_bytes::lower_check(rec, claims_place(block), component)
+    claims::lower_check(rec, claims_place(block), component)
 }
 
 pub fn forward(rec: &[u8], component: u8, block: u8) -> Check

@@ -5,7 +5,7 @@ use mathlib.Core.Path.{_≡_, sym, ap, _∙_}
 use mathlib.Core.List.{List}
 use lib.ListN.{length, getD, take, drop, length-drop}
 use lib.Seq.{drop-drop, take-take}
-use Rattle.arbiter.proofs.ClaimBytes.{read-set-is}
+use Rattle.claims.proofs.ClaimBytes.{read-set-is}
 use lib.Dec.{leb}
 use mathlib.Core.Bool.{Bool, false, cond, _&&_}
 use borrow.Author.Tests.{le-leb, lt-leb}

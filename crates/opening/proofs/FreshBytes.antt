@@ -13,7 +13,7 @@ use Rattle.layout.proofs.Laws.{Lawful, cut, cuts-length, items-keeps}
 use Rattle.layout.proofs.Places.{write-pair, over-in, over-past}
 use Rattle.layout.proofs.Copies.{full-big, items-more}
 use Rattle.arbiter.specs.Claims.{noClaims}
-use Rattle.arbiter.specs.ClaimBytes.{claims}
+use Rattle.claims.specs.ClaimBytes.{claims}
 use Rattle.protocol.specs.Rack.{Block, noCell, fullCell, freshBlock, fresh}
 use Rattle.record.specs.Record.{words, load, cell, fromBlock, block, recordLength, figures, put}
 use Rattle.record.proofs.Parts.{CellFits, BlockFits, message-size, block-size, cell-full, cells-lawful, block-lawful}

@@ -14,7 +14,7 @@ use Rattle.base.proofs.Folds.{below-of, below-same}
 use Rattle.layout.specs.Layout.{part, byte, flag, big, pair, items}
 use Rattle.layout.proofs.Laws.{length-readItems}
 use Rattle.layout.proofs.Places.{read-byte, read-pair, formed-below}
-use Rattle.arbiter.specs.ClaimBytes.{claims}
+use Rattle.claims.specs.ClaimBytes.{claims}
 use Rattle.record.specs.Record.{tokens, words, load, toCell, cell, toMessage, message, block, figures, layoutOf}
 use Rattle.record.proofs.Parts.{ends, cell-size, message-size, block-size}
 use Rattle.layout.proofs.Forms.{formed-pair, formed-items, numbers-zero}

@@ -13,7 +13,7 @@ use Rattle.layout.proofs.Laws.{Stands, StandItems, stand-items, items-unchanged
 use Rattle.layout.proofs.Places.{Place, item}
 use Rattle.layout.proofs.Copies.{items-more, items-removed}
 use Rattle.arbiter.specs.Claims.{Claims}
-use Rattle.arbiter.specs.ClaimBytes.{claims}
+use Rattle.claims.specs.ClaimBytes.{claims}
 use Rattle.protocol.specs.declared.Message.{Message}
 use Rattle.protocol.specs.Rack.{Cell, Block, noMessage, cellAt, claimsAt, messageAt}
 use Rattle.protocol.specs.Rules.{withCell, withClaims}

@@ -17,7 +17,7 @@ use Rattle.layout.proofs.Places.{Place, within, first, second, iso-place, item,
 use Rattle.layout.proofs.Copies.{items-more}
 use Rattle.protocol.specs.Rack.{Cell, noCell, cellAt}
 use Rattle.protocol.specs.Rules.{stored}
-use Rattle.record.specs.declared.cells.Marks.{Marks}
+use Rattle.record.specs.declared.Marks.{Marks}
 use Rattle.record.specs.Record.{tokens, words, load, toCell, fromCell, cell, block, get, put}
 use Rattle.record.specs.Needs.{Whole, InCell}
 use Rattle.record.specs.Changes.{MarksOf, marked, filled, onCell}

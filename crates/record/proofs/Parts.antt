@@ -8,7 +8,7 @@ use Rattle.layout.specs.Layout.{Layout, byte, big, pair, items}
 use Rattle.layout.proofs.Laws.{Lawful, byte-lawful, flag-lawful, big-lawful, pair-lawful, iso-lawful, items-lawful, Items}
 use Rattle.layout.proofs.Copies.{Full, full-byte, full-flag, full-big, full-pair, full-iso, full-items}
 use Rattle.arbiter.specs.Claims.{Claims}
-use Rattle.arbiter.specs.ClaimBytes.{claims}
+use Rattle.claims.specs.ClaimBytes.{claims}
 use Rattle.protocol.specs.declared.Message.{Message}
 use Rattle.protocol.specs.Rack.{Cell, Block}
 use Rattle.record.specs.Record.{tokens, words, Load, load, toCell, fromCell, cell, toMessage, fromMessage, message, toBlock, fromBlock, block}

@@ -17,7 +17,7 @@ use Rattle.layout.specs.Layout.{Layout, part, over, byte, pair, items}
 use Rattle.layout.proofs.Parts.{length-part}
 use Rattle.layout.proofs.Laws.{Stands, Lawful, byte-lawful, pair-lawful, pair-again, items-again, items-lawful, Items, length-readItems, cut-rest}
 use Rattle.layout.proofs.Places.{Place, within, first, second, iso-place, item}
-use Rattle.arbiter.specs.ClaimBytes.{claims}
+use Rattle.claims.specs.ClaimBytes.{claims}
 use Rattle.protocol.specs.declared.Message.{Message}
 use Rattle.protocol.specs.Rack.{Block, Rack, noCell, noBlock, blockAt}
 use Rattle.protocol.specs.Rules.{changed}

@@ -5,7 +5,7 @@ use mathlib.Core.List.{List}
 use Rattle.protocol.specs.declared.Message.{Message}
 use Rattle.protocol.specs.Rack.{Cell, Rack}
 use Rattle.protocol.specs.Rules.{withCell}
-use Rattle.record.specs.declared.cells.Marks.{Marks}
+use Rattle.record.specs.declared.Marks.{Marks}
 
 -- a cell's plain count, owner's mark and valid mark, as the code has them
 pub record MarksOf (x : Cell) (h : Marks) : Type 0 where

@@ -18,7 +18,7 @@ use Rattle.layout.specs.Layout.{part, pair, items}
 use Rattle.layout.proofs.Laws.{length-readItems}
 use Rattle.layout.proofs.Places.{Place, first, iso-place}
 use Rattle.arbiter.specs.Claims.{soundClaims}
-use Rattle.arbiter.specs.ClaimBytes as bytes
+use Rattle.claims.specs.ClaimBytes as bytes
 use Rattle.protocol.specs.declared.Message.{Message}
 use Rattle.protocol.specs.Rack.{Cell, meshLimit, owners, held, carried, noCell, noMessage, blockAt, cellAt, claimsAt, messageAt, tokensOf, ownersOf}
 use Rattle.protocol.specs.Sound.{sizes, soundCell, soundMessage, soundBlock, sound}

@@ -7,7 +7,7 @@ use lib.Dec.{eqb, leb, ltb}
 use Rattle.base.specs.Folds.{implies, below, sumBelow}
 use Rattle.layout.specs.Layout.{part}
 use Rattle.arbiter.specs.Claims.{soundClaims}
-use Rattle.arbiter.specs.ClaimBytes.{claimsAt}
+use Rattle.claims.specs.ClaimBytes.{claimsAt}
 use Rattle.protocol.specs.Sound.{soundCell, soundMessage}
 use Rattle.record.specs.Record.{cell, message}
 

@@ -10,7 +10,6 @@ ghost use Rattle.protocol.specs.Sound.{sizes};
 ghost use Rattle.record.specs.Record.{words, recordLength};
 ghost use Rattle.record.specs.Sound.{soundBytes};
 ghost use Rattle.soundness.specs.Deciding.{marksFine, cellFine, endsFine, messageFine, weightAt, flying, resting, blockFine};
-use arbiter::claim_bytes;
 use base::both;
 use base::wide;
 use record::sizes;
@@ -137,7 +136,7 @@ fn block_fine(rec: &[u8], at: usize, boards: u8, tokens: u8, mesh: u32) -> bool
 {
     let t = cells(rec, at, wide(boards) as usize + 1);
     let sum = t.weight + mesh;
-    let claims = claim_bytes::sound_at(rec, at + 560, boards);
+    let claims = claims::sound_at(rec, at + 560, boards);
     both(both(t.fine, sum == wide(tokens) + 65536), claims)
 }
 

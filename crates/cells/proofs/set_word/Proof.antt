@@ -1,0 +1,42 @@
+-- `cells::set_word` meets its contract: a word has a place of its own.
+use mathlib.Core.Path.{_∙_}
+use Rattle.record.proofs.Leaves.{set-word-is}
+use borrow.Author.Needs.{needs}
+use Rattle.cells.proofs.set_word.Statement.{statement}
+use Rattle.cells.proofs.set_word.Tie as tie
+
+cell-place-requires : tie.Need-cell-place-requires
+cell-place-requires c κs = search needs
+
+add-put-word : tie.Need-add-put-word
+add-put-word c = search needs
+
+mul-put-word : tie.Need-mul-put-word
+mul-put-word c = search needs
+
+add-put-word-2 : tie.Need-add-put-word-2
+add-put-word-2 c = search needs
+
+put-word-requires : tie.Need-put-word-requires
+put-word-requires c κs = search needs
+
+same-length : tie.Need-same-length
+same-length c = search needs
+
+returns : tie.Need-returns
+returns c = let s = c .before .before .before .before .before .before in
+    c .before .before .put-word .ensures
+    ∙ set-word-is (s .args .rec .now) (λ k. c .before .before .before .before .before .slice-known .given k .fits) (s .args .block) (s .args .component) (s .pre .0)
+    (c .before .before .before .before .cell-place .result) (c .before .before .before .before .cell-place .ensures) (s .args .index) (s .pre .1) (s .args .value)
+
+pub set-word-spec : {M : Type 1} → statement M
+set-word-spec =
+    tie.close
+    (tie.spec
+    cell-place-requires
+    add-put-word
+    mul-put-word
+    add-put-word-2
+    put-word-requires
+    same-length
+    returns)
