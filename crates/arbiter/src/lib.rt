@@ -1,2 +1,2 @@
-// Arbitration of claims on a block: sets of boards, and the rules for raising and lowering a claim on the record's bytes.
+// Arbitration of claims on a block: sets of boards. specs/Claims.antt has the rules for raising and lowering a claim.
 pub mod sets;
