@@ -8,21 +8,22 @@ use native.Mathlib.Numerals.{add-one}
 use native.Mathlib.Omega.{arith}
 use borrow.Author.Tests.{eq-eqb, eqb-true}
 use lib.Dec.{eqb}
-use lib.ListN.{length, getD, set, take, drop, length-set}
-use lib.Seq.{drop-cons, take-take}
+use lib.ListN.{length, getD, set, take, drop, length-set, length-replicate, getD-replicate}
+use lib.Seq.{drop-cons, take-take, ext-getD}
 use Rattle.base.specs.Folds.{below, implies}
 use Rattle.base.proofs.Tests.{same-test, and-l, and-r, and-of, and-left, and-right, and-true}
-use Rattle.base.proofs.Folds.{all-set}
+use Rattle.base.proofs.Folds.{all-set, below-at}
 use Rattle.layout.specs.Number.{Bytes}
 use Rattle.layout.specs.Layout.{part, over, cover, big, formedItems}
 use Rattle.layout.proofs.Parts.{bytes-take, bytes-drop, length-part, part-part}
 use Rattle.layout.proofs.Laws.{Stands, Lawful, big-lawful, Items, items-lawful, cut, cut-second, cuts-length, written, length-readItems}
 use Rattle.layout.proofs.Places.{Place, item, over-in}
 use Rattle.arbiter.specs.Boards.{places, member, empty, insert, remove, subset, boardsOnly}
-use Rattle.arbiter.specs.Claims.{Claims, waiting, barring, raised, lowered, soundBarring, soundClaims}
+use Rattle.arbiter.specs.Claims.{Claims, waiting, barring, noClaims, raised, lowered, soundBarring, soundClaims}
 use Rattle.claims.specs.ClaimBytes.{claims, claimsAt, putClaims}
 use Rattle.base.proofs.Maps.{mapFirst, mapFirst-none, mapFirst-more, mapFirst-all}
 use Rattle.arbiter.proofs.Boards.{subset-empty, boards-subset}
+use Rattle.arbiter.proofs.Claims.{claims-test, none-sound}
 
 -- ---- two bytes
 
@@ -270,3 +271,23 @@ module _ (n : ℕ) (c : Claims) where
   pub sound-all : length c ≡ suc n → boardsOnly n (waiting c) ≡ true → firstSound n ≡ soundClaims n c
   unfolding soundClaims firstSound
   sound-all l h = rw (h, eq-eqb (length c) (suc n) l)
+
+-- bytes that are all 0 hold no claims
+pub clear-sound : (n at : ℕ) (s : List ℕ) → n < places → at + 32 ≤ length s → below (2 * (n + 1)) (λ i. eqb (getD s (at + i) 0) 0) ≡ true
+    → true ≡ soundClaims n (claimsAt n at s)
+clear-sound n at s fits room h = sym (ap (soundClaims n) same ∙ claims-test n (noClaims n) none-sound)
+  where
+    zero-at : (k : ℕ) → k < 2 * (n + 1) → getD s (at + k) 0 ≡ 0
+    zero-at k l = eqb-true _ _ (below-at (λ i. eqb (getD s (at + i) 0) 0) (2 * (n + 1)) h k l)
+
+    none : (i : ℕ) → i ≤ n → barring (claimsAt n at s) i ≡ 0
+    none i l =
+        let next : at + 2 * i + 1 ≡ at + (2 * i + 1) = omega arith in
+        let low : getD s (at + 2 * i + 1) 0 ≡ 0 = ap (λ (k : ℕ). getD s k 0) next ∙ zero-at (2 * i + 1) (omega arith) in
+        let high : getD s (at + 2 * i) 0 ≡ 0 = zero-at (2 * i) (omega arith) in
+        sym (barring-is n at i s fits l) ∙ read-set-is (at + 2 * i) s (omega (arith, fits)) ∙ omega (arith, low, high)
+
+    same : claimsAt n at s ≡ noClaims n
+    same =
+        ext-getD empty (claimsAt n at s) (noClaims n) (length-claims n at s ∙ sym (length-replicate (suc n) empty))
+        (λ i l. none i (omega (arith, length-claims n at s)) ∙ sym (getD-replicate (suc n) i empty empty (omega (arith, length-claims n at s))))

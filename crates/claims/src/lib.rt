@@ -12,6 +12,7 @@ ghost use Rattle.arbiter.specs.Claims.{waiting, active, raiseCheck, raised, low
 ghost use Rattle.claims.specs.ClaimBytes.{claimsAt, putClaims};
 use arbiter::sets;
 use base::both;
+use base::clear;
 use refusals::Check;
 use refusals::Refusal;
 
@@ -120,7 +121,7 @@ fn bars(waiting: u16, board: u8, barring: u16) -> bool
 }
 
 // Whether the claims are those of a sound record.
-pub fn sound_at(rec: &[u8], at: usize, boards: u8) -> bool
+fn sets_sound(rec: &[u8], at: usize, boards: u8) -> bool
     requires { ⌜ (at + 32 ≤ length (now rec)) × (boards < 16) ⌝ }
     ensures { λ r. ⌜ r ≡ soundClaims boards (claimsAt boards at (now (rec .entry))) ⌝ }
 {
@@ -136,4 +137,15 @@ pub fn sound_at(rec: &[u8], at: usize, boards: u8) -> bool
         return ok;
     }
     false
+}
+
+// Whether the sets are sound. Most blocks are unclaimed, with all sets empty.
+pub fn sound_at(rec: &[u8], at: usize, boards: u8) -> bool
+    requires { ⌜ (at + 32 ≤ length (now rec)) × (boards < 16) ⌝ }
+    ensures { λ r. ⌜ r ≡ soundClaims boards (claimsAt boards at (now (rec .entry))) ⌝ }
+{
+    if clear(rec, at, 2 * (boards as usize + 1)) {
+        return true;
+    }
+    sets_sound(rec, at, boards)
 }

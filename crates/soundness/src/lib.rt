@@ -11,6 +11,7 @@ ghost use Rattle.record.specs.Record.{words, recordLength};
 ghost use Rattle.record.specs.Sound.{soundBytes};
 ghost use Rattle.soundness.specs.Deciding.{marksFine, cellFine, endsFine, messageFine, weightAt, flying, resting, blockFine};
 use base::both;
+use base::clear;
 use base::wide;
 use record::sizes;
 
@@ -70,13 +71,7 @@ fn words_clear(rec: &[u8], at: usize) -> bool
     requires { ⌜ at + 32 ≤ length (now rec) ⌝ }
     ensures { λ r. ⌜ r ≡ every (eqb 0) (words .read (part at 32 (now (rec .entry)))) ⌝ }
 {
-    let mut clear = true;
-    let mut i: usize = 0;
-    while i < 32 {
-        clear = both(rec[at + i] == 0, clear);
-        i += 1;
-    }
-    clear
+    clear(rec, at, 32)
 }
 
 // Whether a message's ends are known and differ, and its block is known.
