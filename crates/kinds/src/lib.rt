@@ -1,10 +1,11 @@
 // The steps of the hub card and the table of their records: specs/Kinds.antt has the table, which the reader's and the writer's contracts cite.
 ghost use mathlib.Core.Path.{_≡_};
-ghost use Prim.Native.Nat.{_≤_};
+ghost use Prim.Native.Nat.{_+_, _≤_};
 ghost use mathlib.Core.Bool.{true};
-ghost use lib.ListN.{length, getD};
+ghost use lib.ListN.{length, getD, take, drop};
 ghost use Rattle.layout.specs.Number.{number, digits};
 ghost use Rattle.kinds.specs.Kinds.{fieldOf, kindOf, places, fit, TagsOf};
+use base::wide;
 
 // A step of the hub card.
 pub enum Step {
@@ -69,6 +70,18 @@ pub fn number(bytes: &[u8]) -> u32
         i += 1;
     }
     sum
+}
+
+// The number that four bytes from a place on make.
+pub fn number_at(bytes: &[u8], at: usize) -> u32
+    requires { ⌜ at + 4 ≤ length (now bytes) ⌝ }
+    ensures { λ r. ⌜ r ≡ number (take 4 (drop at (now (bytes .entry)))) ⌝ }
+{
+    let a = wide(bytes[at]);
+    let b = wide(bytes[at + 1]);
+    let c = wide(bytes[at + 2]);
+    let d = wide(bytes[at + 3]);
+    a * 16777216 + b * 65536 + c * 256 + d
 }
 
 // Writes the number over the whole of `out`, high byte first.

@@ -1,7 +1,7 @@
 -- Numbers as bytes and back, by induction on the count of bytes.
-use mathlib.Core.Path.{_≡_, refl, sym, _∙_}
+use mathlib.Core.Path.{_≡_, refl, sym, ap, _∙_}
 use Prim.Native.Nat.{ℕ, zero, suc, _+_, _*_, _-_, _/_, _%_, _^_, _≤_, _<_}
-use native.Mathlib.Numerals.{add-one}
+use native.Mathlib.Numerals.{add-one, unary-clauses}
 use native.Mathlib.Omega.{arith}
 use native.Mathlib.Nat.{pow-suc, pow-le-pow-right, add-zero, zero-add}
 use mathlib.Core.List.{List, [], _∷_, _++_}
@@ -83,3 +83,16 @@ digits-next (suc j) v out h k =
     rw low
     (rw (set-split out j (v % 256) k, drop-at (take j out) (v % 256 ∷ drop (suc j) out) j (length-take-le j out (omega arith)))
     (sym (append-snoc (digits j (v / 256)) (v % 256) (drop (suc j) out))))
+
+-- four bytes from a place on, and the number that they make
+pub four : (p : ℕ) (s : List ℕ) → p + 4 ≤ length s → drop p s ≡ getD s p 0 ∷ getD s (p + 1) 0 ∷ getD s (p + 2) 0 ∷ getD s (p + 3) 0 ∷ drop (p + 4) s
+four p [] l = absurd (omega arith)
+four zero (a ∷ []) l = absurd (omega arith)
+four zero (a ∷ b ∷ []) l = absurd (omega arith)
+four zero (a ∷ b ∷ c ∷ []) l = absurd (omega arith)
+four zero (a ∷ b ∷ c ∷ d ∷ s) l = refl
+four (suc p) (x ∷ s) l = simp unary-clauses (simp unary-clauses at (four p s (omega arith)))
+
+pub number-four : (p : ℕ) (s : List ℕ) → p + 4 ≤ length s
+    → number (take 4 (drop p s)) ≡ getD s p 0 * 16777216 + getD s (p + 1) 0 * 65536 + getD s (p + 2) 0 * 256 + getD s (p + 3) 0
+number-four p s l = ap (λ (t : List ℕ). number (take 4 t)) (four p s l) ∙ omega arith

@@ -21,7 +21,7 @@ pub record Found (k : ℕ) (x : Kind) (body : List ℕ) : Type 0 where
   pub holds : Holds (x .fields) (placesIn k (x .fields) body) body
   pub back : places (x .step (placesIn k (x .fields) body)) ≡ placesIn k (x .fields) body
 
-no-field : (body : List ℕ) → fill (noField ∷ []) body ≡ true → ⊥
+pub no-field : (body : List ℕ) → fill (noField ∷ []) body ≡ true → ⊥
 no-field body e = omega (arith, filled noField [] body e .value)
 
 -- of a send, yes and no are read from 0 or 1

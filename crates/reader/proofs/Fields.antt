@@ -1,18 +1,15 @@
--- Laws of fields: when one stands at the front of bytes, when several fill them, and one turn of a loop over tags.
+-- Laws of fields: when one stands at the front of bytes, when several fill them.
 use mathlib.Core.Path.{_≡_}
-use Prim.Native.Nat.{ℕ, _+_, _≤_, _<_}
-use mathlib.Core.Bool.{true, _&&_}
-use mathlib.Core.List.{List, _∷_, map}
-use lib.ListN.{length, getD, take, drop, set}
-use lib.Seq.{drop-drop}
+use Prim.Native.Nat.{ℕ, _≤_, _<_}
+use mathlib.Core.Bool.{true}
+use mathlib.Core.List.{List, _∷_}
+use lib.ListN.{length, getD, take, drop}
 use borrow.Author.Tests.{ltb-true, leb-true, eqb-true, le-leb, eq-eqb}
 use Rattle.base.proofs.Tests.{and-l, and-r}
 use Rattle.layout.specs.Number.{number}
 use Rattle.kinds.specs.declared.Field.{Field}
-use Rattle.kinds.specs.Kinds.{fieldOf}
 use Rattle.kinds.specs.Record.{size}
-use Rattle.reader.specs.Reader.{headed, valueAt, stands, fill, gathered}
-use Rattle.base.proofs.Lists.{map-next}
+use Rattle.reader.specs.Reader.{headed, valueAt, stands, fill}
 
 -- what `headed` tests
 pub record Headed (f : Field) (bs : List ℕ) : Type 0 where
@@ -43,16 +40,3 @@ filled f fs bs e =
       value = ltb-true _ _ (and-r (headed f bs) _ stood);
       rest = and-r (stands f bs) _ e;
     }
-
--- a turn of the loop over tags
-module _ (tags body : List ℕ) (i at : ℕ) (within : i < length tags) where
-  abbrev field : Field
-  field = fieldOf (getD tags i 0)
-
-  pub fill-next : fill (map fieldOf (drop i tags)) (drop at body) ≡
-      (stands field (drop at body) && fill (map fieldOf (drop (i + 1) tags)) (drop (at + size field) body))
-  fill-next = rw (map-next fieldOf tags i within, ← drop-drop (size field) at body)
-
-  pub gathered-next : (p : List ℕ) → gathered (map fieldOf (drop i tags)) (drop at body) p ≡
-      gathered (map fieldOf (drop (i + 1) tags)) (drop (at + size field) body) (set p (field .tag) (valueAt field (drop at body)))
-  gathered-next p = rw (map-next fieldOf tags i within, ← drop-drop (size field) at body)

@@ -1,4 +1,6 @@
 pub mod Fields
 pub mod Trips
 pub mod Bodies
+pub mod Seeing
+pub mod ByKind
 pub mod Theorems

@@ -1,13 +1,14 @@
 -- Tokens, words, cells and messages, written byte by byte as code writes them: by the laws of two values one behind the other.
-use Prim.Native.Nat.{ℕ, zero, suc, _+_, _*_, _/_, _%_, _^_, _≤_, _<_}
+use Prim.Native.Nat.{ℕ, zero, suc, _+_, _/_, _%_, _^_, _≤_, _<_}
 use native.Mathlib.Nat.{zero-add, suc-add}
 use native.Mathlib.Numerals.{unary-clauses, one-add}
 use native.Mathlib.Omega.{arith}
-use mathlib.Core.Path.{_≡_, refl, sym, ap, _∙_}
+use mathlib.Core.Path.{_≡_, sym, ap, _∙_}
 use mathlib.Core.Bool.{Bool}
 use mathlib.Core.List.{List, [], _∷_}
 use lib.Dec.{eqb}
-use lib.ListN.{length, getD, set, take, length-set, take-append-drop}
+use lib.ListN.{length, getD, set, take, drop, length-set, take-append-drop}
+use lib.Seq.{take-take}
 use Rattle.base.specs.Folds.{one}
 use Rattle.layout.specs.Number.{number}
 use Rattle.layout.specs.Layout.{part, over, cover, byte, flag, big, pair}
@@ -28,17 +29,8 @@ tokens-read p s =
     ∙ ap (λ (k : ℕ). (getD s p 0, (eqb (getD s (p + 1) 0) 1, eqb (getD s k 0) 1))) (let e : p + 1 + 1 ≡ p + 2 = omega arith in e)
 
 -- a word is its four bytes
-four : (p : ℕ) (s : List ℕ) → p + 4 ≤ length s → part p 4 s ≡ getD s p 0 ∷ getD s (p + 1) 0 ∷ getD s (p + 2) 0 ∷ getD s (p + 3) 0 ∷ []
-four p [] l = absurd (omega arith)
-four zero (a ∷ []) l = absurd (omega arith)
-four zero (a ∷ b ∷ []) l = absurd (omega arith)
-four zero (a ∷ b ∷ c ∷ []) l = absurd (omega arith)
-four zero (a ∷ b ∷ c ∷ d ∷ s) l = refl
-four (suc p) (x ∷ s) l = simp unary-clauses (simp unary-clauses at (four p s (omega arith)))
-
-pub word-read : (p : ℕ) (s : List ℕ) → p + 4 ≤ length s
-    → big 4 .read (part p 4 s) ≡ getD s p 0 * 16777216 + getD s (p + 1) 0 * 65536 + getD s (p + 2) 0 * 256 + getD s (p + 3) 0
-word-read p s l = ap (λ (t : List ℕ). number (take 4 t)) (four p s l) ∙ omega arith
+pub word-read : (p : ℕ) (s : List ℕ) → big 4 .read (part p 4 s) ≡ number (take 4 (drop p s))
+word-read p s = ap number (take-take 4 4 (drop p s) (omega arith))
 
 -- ---- written
 

@@ -4,18 +4,13 @@ ghost use Prim.Native.Nat.{_+_, _*_, _≤_, _<_};
 ghost use lib.ListN.{length};
 ghost use Rattle.layout.specs.Layout.{big, part, over};
 ghost use Rattle.record.specs.Record.{words};
-use base::wide;
 
 // The word at a place.
 pub fn word_at(s: &[u8], at: usize) -> u32
     requires { ⌜ at + 4 ≤ length (now s) ⌝ }
     ensures { λ r. ⌜ r ≡ big 4 .read (part at 4 (now (s .entry))) ⌝ }
 {
-    let a = wide(s[at]);
-    let b = wide(s[at + 1]);
-    let c = wide(s[at + 2]);
-    let d = wide(s[at + 3]);
-    a * 16777216 + b * 65536 + c * 256 + d
+    kinds::number_at(s, at)
 }
 
 // Writes the word at a place.

@@ -1,6 +1,5 @@
 -- `reader::read` meets its contract: the frame is tested, and the body read.
 use mathlib.Core.Path.{_≡_}
-use native.Mathlib.Omega.{arith}
 use mathlib.Core.List.{List}
 use Prim.Native.Nat.{ℕ, _≤_, _<_, _-_}
 use lib.ListN.{length, getD, take, drop}
@@ -56,9 +55,6 @@ returns-2 c = other-length _ _ (c .before .before .before .if1 .left) (c .before
 shared-slice-read-read-body : tie.Need-shared-slice-read-read-body
 shared-slice-read-read-body c = search needs
 
-cast-read-body : tie.Need-cast-read-body
-cast-read-body c = omega (arith, c .shared-slice-known2 .given 0)
-
 sub-read-body : tie.Need-sub-read-body
 sub-read-body c = search needs
 
@@ -89,7 +85,6 @@ read-spec =
     sub-if2
     returns-2
     shared-slice-read-read-body
-    cast-read-body
     sub-read-body
     part-read-body-start
     part-read-body-end

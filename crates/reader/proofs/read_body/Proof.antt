@@ -1,31 +1,62 @@
--- `reader::read_body` meets its contract: the tags are those of the kind's fields.
-use mathlib.Core.Path.{sym}
-use lib.Seq.{length-take-le}
+-- `reader::read_body` meets its contract: each arm reads the body of its kind, and anything else is torn.
+use mathlib.Core.Path.{sym, ap, _∙_}
+use Prim.Native.Nat.{ℕ}
+use native.Mathlib.Omega.{arith}
+use Rattle.reader.specs.Reader.{readBody}
+use Rattle.reader.proofs.ByKind.{no-kind}
 use borrow.Author.Needs.{needs}
 use Rattle.reader.proofs.read_body.Statement.{statement}
 use Rattle.reader.proofs.read_body.Tie as tie
 
-tags-of-requires : tie.Need-tags-of-requires
-tags-of-requires c κs = search needs
+read-load-requires : tie.Need-read-load-requires
+read-load-requires c κs = search needs
 
-array-share-prefix-tags : tie.Need-array-share-prefix-tags
-array-share-prefix-tags c = search needs
+read-store-requires : tie.Need-read-store-requires
+read-store-requires c κs = search needs
 
-slice-aggregate-read-fields : tie.Need-slice-aggregate-read-fields
-slice-aggregate-read-fields c = sym (length-take-le _ _ (c .before .before .tags-of .ensures .long))
+read-send-requires : tie.Need-read-send-requires
+read-send-requires c κs = search needs
 
-read-fields-requires : tie.Need-read-fields-requires
-read-fields-requires c κs = search needs
+read-deliver-requires : tie.Need-read-deliver-requires
+read-deliver-requires c κs = search needs
+
+read-claim-requires : tie.Need-read-claim-requires
+read-claim-requires c κs = search needs
 
 returns : tie.Need-returns
-returns c = search needs
+returns c = c .read-load .ensures ∙ ap (λ (k : ℕ). readBody k (c .before .before .before .args .body .now)) (sym (c .before .match .keys1))
+
+returns-2 : tie.Need-returns-2
+returns-2 c = c .read-store .ensures ∙ ap (λ (k : ℕ). readBody k (c .before .before .before .args .body .now)) (sym (c .before .match .keys2))
+
+returns-3 : tie.Need-returns-3
+returns-3 c = c .read-send .ensures ∙ ap (λ (k : ℕ). readBody k (c .before .before .before .args .body .now)) (sym (c .before .match .keys3))
+
+returns-4 : tie.Need-returns-4
+returns-4 c = c .read-deliver .ensures ∙ ap (λ (k : ℕ). readBody k (c .before .before .before .args .body .now)) (sym (c .before .match .keys4))
+
+returns-5 : tie.Need-returns-5
+returns-5 c = search needs
+
+returns-6 : tie.Need-returns-6
+returns-6 c = no-kind (c .before .before .before .args .kind) _ (omega (arith, c .before .match, c .if1))
+
+returns-7 : tie.Need-returns-7
+returns-7 c = no-kind (c .before .before .before .before .args .kind) _ (omega (arith, c .before .before .match, c .before .if1, c .if2))
 
 pub read-body-spec : {M : Type 1} → statement M
 read-body-spec =
     tie.close
     (tie.spec
-    tags-of-requires
-    array-share-prefix-tags
-    slice-aggregate-read-fields
-    read-fields-requires
-    returns)
+    read-load-requires
+    read-store-requires
+    read-send-requires
+    read-deliver-requires
+    read-claim-requires
+    returns
+    returns-2
+    returns-3
+    returns-4
+    returns-5
+    returns-6
+    returns-7)

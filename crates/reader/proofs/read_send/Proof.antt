@@ -1,0 +1,88 @@
+-- `reader::read_send` meets its contract: six fields, which fill the body.
+use mathlib.Core.Path.{refl, _∙_}
+use mathlib.Core.Bool.{_&&_}
+use lib.Dec.{ltb}
+use Rattle.kinds.specs.Kinds.{kindOf}
+use Rattle.reader.proofs.Seeing.{other-length}
+use Rattle.reader.proofs.ByKind.{send-reads}
+use borrow.Author.Needs.{needs}
+use Rattle.reader.proofs.read_send.Statement.{statement}
+use Rattle.reader.proofs.read_send.Tie as tie
+
+returns : tie.Need-returns
+unfolding kindOf
+returns c = other-length 0x12 _ (c .if1 .taken)
+
+field-requires : tie.Need-field-requires
+field-requires c κs = search needs
+
+field-requires-2 : tie.Need-field-requires-2
+field-requires-2 c κs = search needs
+
+field-requires-3 : tie.Need-field-requires-3
+field-requires-3 c κs = search needs
+
+field-requires-4 : tie.Need-field-requires-4
+field-requires-4 c κs = search needs
+
+field-requires-5 : tie.Need-field-requires-5
+field-requires-5 c κs = search needs
+
+field-requires-6 : tie.Need-field-requires-6
+field-requires-6 c κs = search needs
+
+both-requires : tie.Need-both-requires
+both-requires c κs = search needs
+
+both-requires-2 : tie.Need-both-requires-2
+both-requires-2 c κs = search needs
+
+both-requires-3 : tie.Need-both-requires-3
+both-requires-3 c κs = search needs
+
+both-requires-4 : tie.Need-both-requires-4
+both-requires-4 c κs = search needs
+
+both-requires-5 : tie.Need-both-requires-5
+both-requires-5 c κs = search needs
+
+low-requires : tie.Need-low-requires
+low-requires c κs = search needs
+
+low-requires-2 : tie.Need-low-requires-2
+low-requires-2 c κs = search needs
+
+low-requires-3 : tie.Need-low-requires-3
+low-requires-3 c κs = search needs
+
+low-requires-4 : tie.Need-low-requires-4
+low-requires-4 c κs = search needs
+
+returns-2 : tie.Need-returns-2
+returns-2 c = send-reads (c .before .before .before .before .before .before .before .before .before .before .before .before .before .before .before .before .before .before .args .body .now) (c .before .before .before .before .before .before .before .before .before .before .before .before .before .before .before .field .result) (c .before .before .before .before .before .before .before .before .before .before .before .before .before .before .field2 .result) (c .before .before .before .before .before .before .before .before .before .before .before .before .before .before .before .field .ensures) (c .before .before .before .before .before .before .before .before .before .before .before .before .before .before .field2 .ensures) (c .before .before .before .before .before .before .before .before .before .before .before .before .before .field3 .result) (c .before .before .before .before .before .before .before .before .before .before .before .before .field4 .result) (c .before .before .before .before .before .before .before .before .before .before .before .field5 .result) (c .before .before .before .before .before .before .before .before .before .before .field6 .result) (c .before .before .before .before .before .before .before .before .before .before .before .before .before .field3 .ensures) (c .before .before .before .before .before .before .before .before .before .before .before .before .field4 .ensures) (c .before .before .before .before .before .before .before .before .before .before .before .field5 .ensures) (c .before .before .before .before .before .before .before .before .before .before .field6 .ensures) (c .before .before .before .low .result) (c .before .before .low2 .result) (c .before .low3 .result) (c .low4 .result) (c .before .before .before .before .before .before .before .before .both2 .result) (c .before .before .before .before .before .both5 .result) (c .before .before .before .before .before .before .before .before .before .before .before .before .before .before .before .before .if1 .left) (c .before .before .before .low .ensures) (c .before .before .low2 .ensures) (c .before .low3 .ensures) (c .low4 .ensures) (c .before .before .before .before .before .before .before .before .both2 .ensures ∙ (λ i. ltb (c .before .before .before .before .before .before .before .before .before .before .before .before .field4 .result) 256 && c .before .before .before .before .before .before .before .before .before .both .ensures i)) (c .before .before .before .before .before .both5 .ensures ∙ (λ i. ltb (c .before .before .before .before .before .before .before .before .before .before .before .before .before .before .before .field .result) 256 && (c .before .before .before .before .before .before .both4 .ensures ∙ (λ j. ltb (c .before .before .before .before .before .before .before .before .before .before .before .before .before .before .field2 .result) 256 && c .before .before .before .before .before .before .before .both3 .ensures j)) i)) .0 (c .before .before .before .before .if2 .taken)
+
+returns-3 : tie.Need-returns-3
+returns-3 c = send-reads (c .before .before .before .before .before .before .before .before .before .before .before .before .before .before .args .body .now) (c .before .before .before .before .before .before .before .before .before .before .before .field .result) (c .before .before .before .before .before .before .before .before .before .before .field2 .result) (c .before .before .before .before .before .before .before .before .before .before .before .field .ensures) (c .before .before .before .before .before .before .before .before .before .before .field2 .ensures) (c .before .before .before .before .before .before .before .before .before .field3 .result) (c .before .before .before .before .before .before .before .before .field4 .result) (c .before .before .before .before .before .before .before .field5 .result) (c .before .before .before .before .before .before .field6 .result) (c .before .before .before .before .before .before .before .before .before .field3 .ensures) (c .before .before .before .before .before .before .before .before .field4 .ensures) (c .before .before .before .before .before .before .before .field5 .ensures) (c .before .before .before .before .before .before .field6 .ensures) _ _ _ _ (c .before .before .before .before .both2 .result) (c .before .both5 .result) (c .before .before .before .before .before .before .before .before .before .before .before .before .if1 .left) refl refl refl refl (c .before .before .before .before .both2 .ensures ∙ (λ i. ltb (c .before .before .before .before .before .before .before .before .field4 .result) 256 && c .before .before .before .before .before .both .ensures i)) (c .before .both5 .ensures ∙ (λ i. ltb (c .before .before .before .before .before .before .before .before .before .before .before .field .result) 256 && (c .before .before .both4 .ensures ∙ (λ j. ltb (c .before .before .before .before .before .before .before .before .before .before .field2 .result) 256 && c .before .before .before .both3 .ensures j)) i)) .1 (c .if2 .left)
+
+pub read-send-spec : {M : Type 1} → statement M
+read-send-spec =
+    tie.close
+    (tie.spec
+    returns
+    field-requires
+    field-requires-2
+    field-requires-3
+    field-requires-4
+    field-requires-5
+    field-requires-6
+    both-requires
+    both-requires-2
+    both-requires-3
+    both-requires-4
+    both-requires-5
+    low-requires
+    low-requires-2
+    low-requires-3
+    low-requires-4
+    returns-2
+    returns-3)
