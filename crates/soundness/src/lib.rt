@@ -55,15 +55,20 @@ fn cells(rec: &[u8], at: usize, count: usize) -> Tally
     ensures weight { λ r. ⌜ (r .weight ≡ resting (now (rec .entry)) at count) × (r .weight ≤ 267395040) ⌝ }
 {
     let mut fine = true;
-    let mut sum: u32 = 0;
+    let mut plain: u32 = 0;
+    let mut owners: u32 = 0;
     let mut c: usize = 0;
     while c < count {
         let place = at + 35 * c;
         fine = both(cell_fine(rec, place), fine);
-        sum = weight(rec, place) + sum;
+        plain = wide(rec[place]) + plain;
+        owners = wide(rec[place + 1]) + owners;
         c += 1;
     }
-    Tally { fine, weight: sum }
+    Tally {
+        fine,
+        weight: plain + owners * 65537,
+    }
 }
 
 // Whether the eight words from a place on are all 0.

@@ -1,4 +1,4 @@
--- `soundness::cells` meets its contract: after c turns the first c cells have been tested and weighed.
+-- `soundness::cells` meets its contract: after c turns the first c cells have been tested, and their plain tokens and owners counted.
 use borrow.Author.Needs.{needs}
 use Prim.Native.Nat.{ℕ, _+_, _*_, _-_, _≤_}
 use native.Mathlib.Omega.{arith}
@@ -12,14 +12,15 @@ use Rattle.soundness.proofs.cells.Statement.{statement}
 use Rattle.soundness.proofs.cells.Tie as tie
 
 abbrev Inv-loop : tie.InvT-loop
-Inv-loop rec at count fine₀ sum₀ c₀ fine sum c = (c ≤ count) × (fine ≡ below c (λ k. cellFine rec (at + 35 * k))) × (sum ≡ resting rec at c)
+Inv-loop rec at count fine₀ plain₀ owners₀ c₀ fine plain owners c =
+    (c ≤ count) × (fine ≡ below c (λ k. cellFine rec (at + 35 * k))) × (plain + owners * 65537 ≡ resting rec at c) × (plain ≤ 255 * c) × (owners ≤ 255 * c)
 
 abbrev μ-loop : tie.MeasureT-loop
-μ-loop rec at count fine₀ sum₀ c₀ fine sum c = count - c
+μ-loop rec at count fine₀ plain₀ owners₀ c₀ fine plain owners c = count - c
 
 loop-holds : tie.Need-loop-holds Inv-loop μ-loop
 loop-holds c = let s = c .before .args in
-    (search needs, sym (below-none (λ k. cellFine (s .rec .now) (s .at + 35 * k))), sym (resting-none (s .rec .now) (s .at)))
+    (search needs, sym (below-none (λ k. cellFine (s .rec .now) (s .at + 35 * k))), sym (resting-none (s .rec .now) (s .at)), omega arith, omega arith)
 
 mul-place : tie.Need-mul-place Inv-loop μ-loop
 mul-place c = search needs
@@ -33,13 +34,26 @@ cell-fine-requires c κs = search needs
 both-requires : tie.Need-both-requires Inv-loop μ-loop
 both-requires c κs = search needs
 
-weight-requires : tie.Need-weight-requires Inv-loop μ-loop
-weight-requires c κs = search needs
+shared-slice-read-wide : tie.Need-shared-slice-read-wide Inv-loop μ-loop
+shared-slice-read-wide c = search needs
 
-add-sum : tie.Need-add-sum Inv-loop μ-loop
-add-sum c = let l = c .before .before .before .before .loop in
-    let s = c .before .before .before .before .before .before .args in
-    omega (arith, resting-most (s .rec .now) (λ k. c .before .before .before .before .before .shared-slice-known .given k .fits) (s .at) (l .c))
+wide-requires : tie.Need-wide-requires Inv-loop μ-loop
+wide-requires c κs = search needs
+
+add-plain : tie.Need-add-plain Inv-loop μ-loop
+add-plain c = search needs
+
+add-wide : tie.Need-add-wide Inv-loop μ-loop
+add-wide c = search needs
+
+shared-slice-read-wide-2 : tie.Need-shared-slice-read-wide-2 Inv-loop μ-loop
+shared-slice-read-wide-2 c = search needs
+
+wide-requires-2 : tie.Need-wide-requires-2 Inv-loop μ-loop
+wide-requires-2 c κs = search needs
+
+add-owners : tie.Need-add-owners Inv-loop μ-loop
+add-owners c = search needs
 
 add-c : tie.Need-add-c Inv-loop μ-loop
 add-c c = search needs
@@ -48,13 +62,23 @@ loop-less : tie.Need-loop-less Inv-loop μ-loop
 loop-less c = search needs
 
 loop-again : tie.Need-loop-again Inv-loop μ-loop
-loop-again c = let s = c .before .before .before .before .before .before .args in
-    let l = c .before .before .before .before .loop in (
+loop-again c = let s = c .before .before .before .before .before .before .before .before .before .args in
+    let l = c .before .before .before .before .before .before .before .loop in
+    let p = c .before .before .wide .ensures in
+    let o = c .wide2 .ensures in (
       search needs,
-      c .before .both .ensures ∙ (λ i. c .before .before .cell-fine .ensures i && l .inv .1 i)
+      c .before .before .before .before .both .ensures ∙ (λ i. c .before .before .before .before .before .cell-fine .ensures i && l .inv .1 i)
           ∙ sym (below-next (λ k. cellFine (s .rec .now) (s .at + 35 * k)) (l .c)),
-      (λ i. c .weight .ensures .0 i + l .inv .2 i) ∙ sym (resting-next (s .rec .now) (s .at) (l .c)),
+      omega (arith, p, o, l .inv .2, resting-next (s .rec .now) (s .at) (l .c)),
+      omega (arith, p, l .inv .3),
+      omega (arith, o, l .inv .4),
     )
+
+mul-t15 : tie.Need-mul-t15 Inv-loop μ-loop
+mul-t15 c = search needs
+
+add-t16 : tie.Need-add-t16 Inv-loop μ-loop
+add-t16 c = search needs
 
 returns : tie.Need-returns Inv-loop μ-loop
 returns c = let s = c .before .before .before .args in
@@ -63,7 +87,7 @@ returns c = let s = c .before .before .before .args in
       l .inv .1 ∙ ap (λ (z : ℕ). below z (λ k. cellFine (s .rec .now) (s .at + 35 * k))) all,
       (
         l .inv .2 ∙ ap (resting (s .rec .now) (s .at)) all,
-        omega (arith, resting-most (s .rec .now) (λ k. c .before .before .shared-slice-known .given k .fits) (s .at) (l .c)),
+        omega (arith, l .inv .2, resting-most (s .rec .now) (λ k. c .before .before .shared-slice-known .given k .fits) (s .at) (l .c)),
       ),
     )
 
@@ -78,9 +102,16 @@ cells-spec =
     add-place
     cell-fine-requires
     both-requires
-    weight-requires
-    add-sum
+    shared-slice-read-wide
+    wide-requires
+    add-plain
+    add-wide
+    shared-slice-read-wide-2
+    wide-requires-2
+    add-owners
     add-c
     loop-less
     loop-again
+    mul-t15
+    add-t16
     returns)
