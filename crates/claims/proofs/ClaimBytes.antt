@@ -12,7 +12,7 @@ use lib.ListN.{length, getD, set, take, drop, length-set, length-replicate, getD
 use lib.Seq.{drop-cons, take-take, ext-getD}
 use Rattle.base.specs.Folds.{below, implies}
 use Rattle.base.proofs.Tests.{same-test, and-l, and-r, and-of, and-left, and-right, and-true}
-use Rattle.base.proofs.Folds.{all-set, below-at}
+use Rattle.base.proofs.Folds.{all-set, below-at, below-fails}
 use Rattle.layout.specs.Number.{Bytes}
 use Rattle.layout.specs.Layout.{part, over, cover, big, formedItems}
 use Rattle.layout.proofs.Parts.{bytes-take, bytes-drop, length-part, part-part}
@@ -263,6 +263,15 @@ module _ (n : ℕ) (c : Claims) where
       ∙ rw (et, eo, ew, es, add-one)
       (ap (λ (x : Bool). x && below k (λ i. soundBarring n c (suc i)))
       (barring-same n c (suc k) (rw ew at boards) (rw (es, add-one) at small)))
+
+  -- a barring set that fails its test
+  pub first-fails : (k w s : ℕ) → k < n → boardsOnly n w ≡ true → s < 2 ^ places → w ≡ waiting c → s ≡ barring c (k + 1)
+      → (subset s w && implies (member w (k + 1)) (eqb s empty)) ≡ false → false ≡ soundClaims n c
+  unfolding soundClaims
+  first-fails k w s l boards small ew es e =
+      sym
+      (and-right (eqb (length c) (suc n) && boardsOnly n (waiting c)) _
+      (below-fails (λ i. soundBarring n c (suc i)) n k l (sym (barring-same n c (suc k) (rw ew at boards) (rw (es, add-one) at small)) ∙ (rw (ew, es, add-one) at e))))
 
   pub sound-boards : boardsOnly n (waiting c) ≡ false → false ≡ soundClaims n c
   unfolding soundClaims

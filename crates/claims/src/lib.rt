@@ -11,7 +11,6 @@ ghost use Rattle.arbiter.specs.Boards.{member, empty, subset};
 ghost use Rattle.arbiter.specs.Claims.{waiting, active, raiseCheck, raised, lowerCheck, lowered, soundClaims};
 ghost use Rattle.claims.specs.ClaimBytes.{claimsAt, putClaims};
 use arbiter::sets;
-use base::both;
 use base::clear;
 use refusals::Check;
 use refusals::Refusal;
@@ -126,17 +125,18 @@ fn sets_sound(rec: &[u8], at: usize, boards: u8) -> bool
     ensures { λ r. ⌜ r ≡ soundClaims boards (claimsAt boards at (now (rec .entry))) ⌝ }
 {
     let w = waiting_at(rec, at);
-    if sets::boards_only(boards, w) {
-        let mut ok = true;
-        let mut board = 0;
-        while board < boards {
-            board += 1;
-            let s = read_set(rec, at + 2 * (board as usize));
-            ok = both(bars(w, board, s), ok);
-        }
-        return ok;
+    if !sets::boards_only(boards, w) {
+        return false;
     }
-    false
+    let mut board = 0;
+    while board < boards {
+        board += 1;
+        let s = read_set(rec, at + 2 * (board as usize));
+        if !bars(w, board, s) {
+            return false;
+        }
+    }
+    true
 }
 
 // Whether the sets are sound. Most blocks are unclaimed, with all sets empty.
