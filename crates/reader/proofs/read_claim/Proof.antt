@@ -38,23 +38,51 @@ low-requires-2 c κs = search needs
 
 returns-2 : tie.Need-returns-2
 returns-2 c =
-    claim-arm (c .before .before .before .before .before .before .before .before .before .args .body .now) (sym (c .match .keys1)) (claim-reads (c .before .before .before .before .before .before .before .before .before .args .body .now) (c .before .before .before .before .before .before .field .result) (c .before .before .before .before .before .field2 .result) (c .before .before .before .before .before .before .field .ensures) (c .before .before .before .before .before .field2 .ensures) 0x14 (c .before .before .before .before .before .before .before .if1 .left) (c .before .before .before .before .both .result) (c .before .before .before .before .both .ensures) Raise raise-is (c .before .before .low .result) (c .before .low2 .result) (c .before .before .low .ensures) (c .before .low2 .ensures) .0 (c .before .before .before .if2 .taken))
+    let at = c .before .before .before in
+    let all = at .before in
+    let b = all .before in
+    let f = b .before in
+    let len = f .before in
+    let s = len .before .before in
+    claim-arm (s .args .body .now) (sym (c .match .keys1))
+    (claim-reads (s .args .body .now) (f .field .result) (b .field2 .result) (f .field .ensures) (b .field2 .ensures) 0x14 (len .if1 .left) (all .both .result) (all .both .ensures) Raise raise-is
+    (c .before .before .low .result) (c .before .low2 .result) (c .before .before .low .ensures) (c .before .low2 .ensures) .0 (at .if2 .taken))
 
 returns-3 : tie.Need-returns-3
 returns-3 c =
-    claim-arm (c .before .before .before .before .before .before .before .before .before .args .body .now) (sym (c .match .keys2)) (claim-reads (c .before .before .before .before .before .before .before .before .before .args .body .now) (c .before .before .before .before .before .before .field .result) (c .before .before .before .before .before .field2 .result) (c .before .before .before .before .before .before .field .ensures) (c .before .before .before .before .before .field2 .ensures) 0x15 (c .before .before .before .before .before .before .before .if1 .left) (c .before .before .before .before .both .result) (c .before .before .before .before .both .ensures) Lower lower-is (c .before .before .low .result) (c .before .low2 .result) (c .before .before .low .ensures) (c .before .low2 .ensures) .0 (c .before .before .before .if2 .taken))
+    let at = c .before .before .before in
+    let all = at .before in
+    let b = all .before in
+    let f = b .before in
+    let len = f .before in
+    let s = len .before .before in
+    claim-arm (s .args .body .now) (sym (c .match .keys2))
+    (claim-reads (s .args .body .now) (f .field .result) (b .field2 .result) (f .field .ensures) (b .field2 .ensures) 0x15 (len .if1 .left) (all .both .result) (all .both .ensures) Lower lower-is
+    (c .before .before .low .result) (c .before .low2 .result) (c .before .before .low .ensures) (c .before .low2 .ensures) .0 (at .if2 .taken))
 
 returns-4 : tie.Need-returns-4
 returns-4 c =
-    let s = c .before .before .before .before .before .before .before .before .before in
+    let at = c .before .before .before in
+    let all = at .before in
+    let b = all .before in
+    let f = b .before in
+    let len = f .before in
+    let s = len .before .before in
     let k : 0x16 ≡ s .args .kind = omega (arith, s .pre, c .match) in
-    claim-arm (s .args .body .now) k (claim-reads (c .before .before .before .before .before .before .before .before .before .args .body .now) (c .before .before .before .before .before .before .field .result) (c .before .before .before .before .before .field2 .result) (c .before .before .before .before .before .before .field .ensures) (c .before .before .before .before .before .field2 .ensures) 0x16 (c .before .before .before .before .before .before .before .if1 .left) (c .before .before .before .before .both .result) (c .before .before .before .before .both .ensures) Forward forward-is (c .before .before .low .result) (c .before .low2 .result) (c .before .before .low .ensures) (c .before .low2 .ensures) .0 (c .before .before .before .if2 .taken))
+    claim-arm (s .args .body .now) k
+    (claim-reads (s .args .body .now) (f .field .result) (b .field2 .result) (f .field .ensures) (b .field2 .ensures) 0x16 (len .if1 .left) (all .both .result) (all .both .ensures) Forward forward-is
+    (c .before .before .low .result) (c .before .low2 .result) (c .before .before .low .ensures) (c .before .low2 .ensures) .0 (at .if2 .taken))
 
 returns-5 : tie.Need-returns-5
 returns-5 c =
-    let s = c .before .before .before .before .before .before in
-    claim-torn (s .args .body .now) (c .before .before .before .field .result) (c .before .before .field2 .result) (c .before .before .before .field .ensures) (c .before .before .field2 .ensures) (s .args .kind) (c .before .before .before .before .if1 .left) (c .before .both .result) (c .before .both .ensures)
-    (s .pre .0) (s .pre .1) (c .if2 .left)
+    let at = c in
+    let all = at .before in
+    let b = all .before in
+    let f = b .before in
+    let len = f .before in
+    let s = len .before .before in
+    claim-torn (s .args .body .now) (f .field .result) (b .field2 .result) (f .field .ensures) (b .field2 .ensures) (s .args .kind) (len .if1 .left) (all .both .result)
+    (all .both .ensures) (s .pre .0) (s .pre .1) (at .if2 .left)
 
 pub read-claim-spec : {M : Type 1} → statement M
 read-claim-spec =

@@ -38,10 +38,32 @@ low-requires-3 : tie.Need-low-requires-3
 low-requires-3 c κs = search needs
 
 returns-2 : tie.Need-returns-2
-returns-2 c = load-reads (c .before .before .before .before .before .before .before .before .before .before .before .args .body .now) (c .before .before .before .before .before .before .before .before .field .result) (c .before .before .before .before .before .before .before .field2 .result) (c .before .before .before .before .before .before .before .before .field .ensures) (c .before .before .before .before .before .before .before .field2 .ensures) (c .before .before .before .before .before .before .field3 .result) (c .before .before .before .before .before .before .field3 .ensures) (c .before .before .low .result) (c .before .low2 .result) (c .low3 .result) (c .before .before .low .ensures) (c .before .low2 .ensures) (c .low3 .ensures) (c .before .before .before .before .both2 .result) (c .before .before .before .before .before .before .before .before .before .if1 .left) (c .before .before .before .before .both2 .ensures ∙ (λ i. ltb (c .before .before .before .before .before .before .before .before .field .result) 256 && c .before .before .before .before .before .both .ensures i)) .0 (c .before .before .before .if2 .taken)
+returns-2 c =
+    let at = c .before .before .before in
+    let all = at .before in
+    let rest = all .before in
+    let w = rest .before in
+    let b = w .before in
+    let f = b .before in
+    let len = f .before in
+    let s = len .before .before in
+    load-reads (s .args .body .now) (f .field .result) (b .field2 .result) (f .field .ensures) (b .field2 .ensures) (w .field3 .result) (w .field3 .ensures) (c .before .before .low .result) (c .before .low2 .result) (c .low3 .result) (c .before .before .low .ensures) (c .before .low2 .ensures) (c .low3 .ensures)
+    (all .both2 .result) (len .if1 .left) (all .both2 .ensures ∙ (λ i. ltb (f .field .result) 256 && rest .both .ensures i))
+    .0 (at .if2 .taken)
 
 returns-3 : tie.Need-returns-3
-returns-3 c = load-reads (c .before .before .before .before .before .before .before .before .args .body .now) (c .before .before .before .before .before .field .result) (c .before .before .before .before .field2 .result) (c .before .before .before .before .before .field .ensures) (c .before .before .before .before .field2 .ensures) (c .before .before .before .field3 .result) (c .before .before .before .field3 .ensures) _ _ _ refl refl refl (c .before .both2 .result) (c .before .before .before .before .before .before .if1 .left) (c .before .both2 .ensures ∙ (λ i. ltb (c .before .before .before .before .before .field .result) 256 && c .before .before .both .ensures i)) .1 (c .if2 .left)
+returns-3 c =
+    let at = c in
+    let all = at .before in
+    let rest = all .before in
+    let w = rest .before in
+    let b = w .before in
+    let f = b .before in
+    let len = f .before in
+    let s = len .before .before in
+    load-reads (s .args .body .now) (f .field .result) (b .field2 .result) (f .field .ensures) (b .field2 .ensures) (w .field3 .result) (w .field3 .ensures) _ _ _ refl refl refl
+    (all .both2 .result) (len .if1 .left) (all .both2 .ensures ∙ (λ i. ltb (f .field .result) 256 && rest .both .ensures i))
+    .1 (at .if2 .left)
 
 pub read-load-spec : {M : Type 1} → statement M
 read-load-spec =

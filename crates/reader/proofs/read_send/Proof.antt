@@ -59,10 +59,50 @@ low-requires-4 : tie.Need-low-requires-4
 low-requires-4 c κs = search needs
 
 returns-2 : tie.Need-returns-2
-returns-2 c = send-reads (c .before .before .before .before .before .before .before .before .before .before .before .before .before .before .before .before .before .before .args .body .now) (c .before .before .before .before .before .before .before .before .before .before .before .before .before .before .before .field .result) (c .before .before .before .before .before .before .before .before .before .before .before .before .before .before .field2 .result) (c .before .before .before .before .before .before .before .before .before .before .before .before .before .before .before .field .ensures) (c .before .before .before .before .before .before .before .before .before .before .before .before .before .before .field2 .ensures) (c .before .before .before .before .before .before .before .before .before .before .before .before .before .field3 .result) (c .before .before .before .before .before .before .before .before .before .before .before .before .field4 .result) (c .before .before .before .before .before .before .before .before .before .before .before .field5 .result) (c .before .before .before .before .before .before .before .before .before .before .field6 .result) (c .before .before .before .before .before .before .before .before .before .before .before .before .before .field3 .ensures) (c .before .before .before .before .before .before .before .before .before .before .before .before .field4 .ensures) (c .before .before .before .before .before .before .before .before .before .before .before .field5 .ensures) (c .before .before .before .before .before .before .before .before .before .before .field6 .ensures) (c .before .before .before .low .result) (c .before .before .low2 .result) (c .before .low3 .result) (c .low4 .result) (c .before .before .before .before .before .before .before .before .both2 .result) (c .before .before .before .before .before .both5 .result) (c .before .before .before .before .before .before .before .before .before .before .before .before .before .before .before .before .if1 .left) (c .before .before .before .low .ensures) (c .before .before .low2 .ensures) (c .before .low3 .ensures) (c .low4 .ensures) (c .before .before .before .before .before .before .before .before .both2 .ensures ∙ (λ i. ltb (c .before .before .before .before .before .before .before .before .before .before .before .before .field4 .result) 256 && c .before .before .before .before .before .before .before .before .before .both .ensures i)) (c .before .before .before .before .before .both5 .ensures ∙ (λ i. ltb (c .before .before .before .before .before .before .before .before .before .before .before .before .before .before .before .field .result) 256 && (c .before .before .before .before .before .before .both4 .ensures ∙ (λ j. ltb (c .before .before .before .before .before .before .before .before .before .before .before .before .before .before .field2 .result) 256 && c .before .before .before .before .before .before .before .both3 .ensures j)) i)) .0 (c .before .before .before .before .if2 .taken)
+returns-2 c =
+    let at = c .before .before .before .before in
+    let all = at .before in
+    let four = all .before in
+    let three = four .before in
+    let two = three .before in
+    let one = two .before in
+    let d = one .before in
+    let o = d .before in
+    let p = o .before in
+    let t = p .before in
+    let b = t .before in
+    let f = b .before in
+    let len = f .before in
+    let s = len .before .before in
+    send-reads (s .args .body .now) (f .field .result) (b .field2 .result) (f .field .ensures) (b .field2 .ensures)
+    (t .field3 .result) (p .field4 .result) (o .field5 .result) (d .field6 .result) (t .field3 .ensures) (p .field4 .ensures) (o .field5 .ensures) (d .field6 .ensures)
+    (c .before .before .before .low .result) (c .before .before .low2 .result) (c .before .low3 .result) (c .low4 .result) (two .both2 .result) (all .both5 .result) (len .if1 .left) (c .before .before .before .low .ensures) (c .before .before .low2 .ensures) (c .before .low3 .ensures) (c .low4 .ensures)
+    (two .both2 .ensures ∙ (λ i. ltb (p .field4 .result) 256 && one .both .ensures i))
+    (all .both5 .ensures ∙ (λ i. ltb (f .field .result) 256 && (four .both4 .ensures ∙ (λ j. ltb (b .field2 .result) 256 && three .both3 .ensures j)) i))
+    .0 (at .if2 .taken)
 
 returns-3 : tie.Need-returns-3
-returns-3 c = send-reads (c .before .before .before .before .before .before .before .before .before .before .before .before .before .before .args .body .now) (c .before .before .before .before .before .before .before .before .before .before .before .field .result) (c .before .before .before .before .before .before .before .before .before .before .field2 .result) (c .before .before .before .before .before .before .before .before .before .before .before .field .ensures) (c .before .before .before .before .before .before .before .before .before .before .field2 .ensures) (c .before .before .before .before .before .before .before .before .before .field3 .result) (c .before .before .before .before .before .before .before .before .field4 .result) (c .before .before .before .before .before .before .before .field5 .result) (c .before .before .before .before .before .before .field6 .result) (c .before .before .before .before .before .before .before .before .before .field3 .ensures) (c .before .before .before .before .before .before .before .before .field4 .ensures) (c .before .before .before .before .before .before .before .field5 .ensures) (c .before .before .before .before .before .before .field6 .ensures) _ _ _ _ (c .before .before .before .before .both2 .result) (c .before .both5 .result) (c .before .before .before .before .before .before .before .before .before .before .before .before .if1 .left) refl refl refl refl (c .before .before .before .before .both2 .ensures ∙ (λ i. ltb (c .before .before .before .before .before .before .before .before .field4 .result) 256 && c .before .before .before .before .before .both .ensures i)) (c .before .both5 .ensures ∙ (λ i. ltb (c .before .before .before .before .before .before .before .before .before .before .before .field .result) 256 && (c .before .before .both4 .ensures ∙ (λ j. ltb (c .before .before .before .before .before .before .before .before .before .before .field2 .result) 256 && c .before .before .before .both3 .ensures j)) i)) .1 (c .if2 .left)
+returns-3 c =
+    let at = c in
+    let all = at .before in
+    let four = all .before in
+    let three = four .before in
+    let two = three .before in
+    let one = two .before in
+    let d = one .before in
+    let o = d .before in
+    let p = o .before in
+    let t = p .before in
+    let b = t .before in
+    let f = b .before in
+    let len = f .before in
+    let s = len .before .before in
+    send-reads (s .args .body .now) (f .field .result) (b .field2 .result) (f .field .ensures) (b .field2 .ensures)
+    (t .field3 .result) (p .field4 .result) (o .field5 .result) (d .field6 .result) (t .field3 .ensures) (p .field4 .ensures) (o .field5 .ensures) (d .field6 .ensures)
+    _ _ _ _ (two .both2 .result) (all .both5 .result) (len .if1 .left) refl refl refl refl
+    (two .both2 .ensures ∙ (λ i. ltb (p .field4 .result) 256 && one .both .ensures i))
+    (all .both5 .ensures ∙ (λ i. ltb (f .field .result) 256 && (four .both4 .ensures ∙ (λ j. ltb (b .field2 .result) 256 && three .both3 .ensures j)) i))
+    .1 (at .if2 .left)
 
 pub read-send-spec : {M : Type 1} → statement M
 read-send-spec =

@@ -47,10 +47,38 @@ number-at-requires : tie.Need-number-at-requires
 number-at-requires c κs = search needs
 
 returns-2 : tie.Need-returns-2
-returns-2 c = store-reads (c .before .before .before .before .before .before .before .before .before .before .before .before .before .before .args .body .now) (c .before .before .before .before .before .before .before .before .before .before .before .field .result) (c .before .before .before .before .before .before .before .before .before .before .field2 .result) (c .before .before .before .before .before .before .before .before .before .before .before .field .ensures) (c .before .before .before .before .before .before .before .before .before .before .field2 .ensures) (c .before .before .before .before .before .before .before .before .before .field3 .result) (c .before .before .before .before .before .before .before .before .before .field3 .ensures) (c .before .before .before .low .result) (c .before .before .low2 .result) (c .before .low3 .result) (c .before .before .before .low .ensures) (c .before .before .low2 .ensures) (c .before .low3 .ensures) (c .before .before .before .before .before .before .before .before .value-stands .result) (c .number-at .result) (c .before .before .before .before .before .both3 .result) (c .before .before .before .before .before .before .before .before .before .before .before .before .if1 .left) (c .before .before .before .before .before .before .before .before .value-stands .ensures) (c .number-at .ensures) (c .before .before .before .before .before .both3 .ensures ∙ (λ i. ltb (c .before .before .before .before .before .before .before .before .before .before .before .field .result) 256 && (c .before .before .before .before .before .before .both2 .ensures ∙ (λ j. ltb (c .before .before .before .before .before .before .before .before .before .before .field2 .result) 256 && c .before .before .before .before .before .before .before .both .ensures j)) i)) .0 (c .before .before .before .before .if2 .taken)
+returns-2 c =
+    let at = c .before .before .before .before in
+    let all = at .before in
+    let two = all .before in
+    let one = two .before in
+    let v = one .before in
+    let w = v .before in
+    let b = w .before in
+    let f = b .before in
+    let len = f .before in
+    let s = len .before .before in
+    store-reads (s .args .body .now) (f .field .result) (b .field2 .result) (f .field .ensures) (b .field2 .ensures) (w .field3 .result) (w .field3 .ensures) (c .before .before .before .low .result) (c .before .before .low2 .result) (c .before .low3 .result) (c .before .before .before .low .ensures) (c .before .before .low2 .ensures) (c .before .low3 .ensures)
+    (v .value-stands .result) (c .number-at .result) (all .both3 .result) (len .if1 .left) (v .value-stands .ensures) (c .number-at .ensures)
+    (all .both3 .ensures ∙ (λ i. ltb (f .field .result) 256 && (two .both2 .ensures ∙ (λ j. ltb (b .field2 .result) 256 && one .both .ensures j)) i))
+    .0 (at .if2 .taken)
 
 returns-3 : tie.Need-returns-3
-returns-3 c = store-reads (c .before .before .before .before .before .before .before .before .before .before .args .body .now) (c .before .before .before .before .before .before .before .field .result) (c .before .before .before .before .before .before .field2 .result) (c .before .before .before .before .before .before .before .field .ensures) (c .before .before .before .before .before .before .field2 .ensures) (c .before .before .before .before .before .field3 .result) (c .before .before .before .before .before .field3 .ensures) _ _ _ refl refl refl (c .before .before .before .before .value-stands .result) _ (c .before .both3 .result) (c .before .before .before .before .before .before .before .before .if1 .left) (c .before .before .before .before .value-stands .ensures) refl (c .before .both3 .ensures ∙ (λ i. ltb (c .before .before .before .before .before .before .before .field .result) 256 && (c .before .before .both2 .ensures ∙ (λ j. ltb (c .before .before .before .before .before .before .field2 .result) 256 && c .before .before .before .both .ensures j)) i)) .1 (c .if2 .left)
+returns-3 c =
+    let at = c in
+    let all = at .before in
+    let two = all .before in
+    let one = two .before in
+    let v = one .before in
+    let w = v .before in
+    let b = w .before in
+    let f = b .before in
+    let len = f .before in
+    let s = len .before .before in
+    store-reads (s .args .body .now) (f .field .result) (b .field2 .result) (f .field .ensures) (b .field2 .ensures) (w .field3 .result) (w .field3 .ensures) _ _ _ refl refl refl
+    (v .value-stands .result) _ (all .both3 .result) (len .if1 .left) (v .value-stands .ensures) refl
+    (all .both3 .ensures ∙ (λ i. ltb (f .field .result) 256 && (two .both2 .ensures ∙ (λ j. ltb (b .field2 .result) 256 && one .both .ensures j)) i))
+    .1 (at .if2 .left)
 
 pub read-store-spec : {M : Type 1} → statement M
 read-store-spec =
