@@ -11,7 +11,7 @@ use Rattle.protocol.specs.declared.Reply.{Reply}
 use Rattle.protocol.specs.declared.Reply.the-variants.{Accepted, Refused}
 use Rattle.opening.specs.Opening.{openTold, openAfter}
 use Rattle.engine.specs.Cut.{cuts}
-use Rattle.engine.specs.Lists.{replies}
+use Rattle.engine.specs.Lists.{replies, after}
 
 -- a digit in ASCII, lower case above 9
 abbrev pub digit : ℕ → ℕ
@@ -60,3 +60,17 @@ text s input =
     let t = getD u 2 0 in
     cond (ltb (length u) 3) (line 0 (Refused Torn))
     (line 0 (openTold n b t s) ++ stepLines (openTold n b t s) (openAfter n b t s) (drop 3 u))
+
+-- the record after the steps, where the opening was accepted
+abbrev pub afterSteps : Reply → List ℕ → List ℕ → List ℕ
+afterSteps (Accepted a) s list = after s (cuts 65536 list)
+afterSteps (Refused r) s list = s
+
+-- what the buffer s holds after the run
+unfoldable pub held : List ℕ → List ℕ → List ℕ
+held s input =
+    let u = used input in
+    let n = getD u 0 0 in
+    let b = getD u 1 0 in
+    let t = getD u 2 0 in
+    cond (ltb (length u) 3) s (afterSteps (openTold n b t s) (openAfter n b t s) (drop 3 u))

@@ -5,8 +5,8 @@ ghost use mathlib.Core.List.{[], _∷_};
 ghost use lib.ListN.{length};
 ghost use Rattle.base.specs.Placing.{place};
 ghost use Rattle.engine.specs.Cut.{cuts};
-ghost use Rattle.engine.specs.Lists.{replies};
-ghost use Rattle.report.specs.Text.{digit, decimal, hexadecimal, said, line, lines, text};
+ghost use Rattle.engine.specs.Lists.{replies, after};
+ghost use Rattle.report.specs.Text.{digit, decimal, hexadecimal, said, line, lines, text, held};
 use base::wide;
 use protocol::Answer;
 use protocol::Reply;
@@ -93,7 +93,8 @@ fn put_line(out: &mut [u8], at: usize, index: u64, reply: Reply) -> usize
 // Gives the records of a list to the record, and places the steps' lines.
 fn put_steps(rec: &mut [u8], list: &[u8], out: &mut [u8], at: usize) -> usize
     requires { ⌜ (length (now list) ≤ 65536) × (at + 16 * ((length (now list) + 2) / 3) ≤ length (now out)) ⌝ }
-    ensures { λ r. ⌜ (r ≡ at + length (lines 1 (replies (now (rec .entry)) (cuts 65536 (now (list .entry)))))) × (now (out .exit) ≡ place at (lines 1 (replies (now (rec .entry)) (cuts 65536 (now (list .entry))))) (now (out .entry))) ⌝ }
+    ensures text { λ r. ⌜ (r ≡ at + length (lines 1 (replies (now (rec .entry)) (cuts 65536 (now (list .entry)))))) × (now (out .exit) ≡ place at (lines 1 (replies (now (rec .entry)) (cuts 65536 (now (list .entry))))) (now (out .entry))) ⌝ }
+    ensures buffer { λ r. ⌜ now (rec .exit) ≡ after (now (rec .entry)) (cuts 65536 (now (list .entry))) ⌝ }
 {
     let mut to = at;
     let mut place: usize = 0;
@@ -111,7 +112,8 @@ fn put_steps(rec: &mut [u8], list: &[u8], out: &mut [u8], at: usize) -> usize
 // Places the text of an input of which every byte is used.
 fn put_text(rec: &mut [u8], input: &[u8], out: &mut [u8]) -> usize
     requires { ⌜ (length (now input) ≤ 65536) × (349536 ≤ length (now out)) ⌝ }
-    ensures { λ r. ⌜ (r ≡ length (text (now (rec .entry)) (now (input .entry)))) × (now (out .exit) ≡ place 0 (text (now (rec .entry)) (now (input .entry))) (now (out .entry))) ⌝ }
+    ensures text { λ r. ⌜ (r ≡ length (text (now (rec .entry)) (now (input .entry)))) × (now (out .exit) ≡ place 0 (text (now (rec .entry)) (now (input .entry))) (now (out .entry))) ⌝ }
+    ensures buffer { λ r. ⌜ now (rec .exit) ≡ held (now (rec .entry)) (now (input .entry)) ⌝ }
 {
     if input.len() < 3 {
         return put_line(out, 0, 0, Reply::Refused(Refusal::Torn));
@@ -131,9 +133,10 @@ fn used(count: usize) -> usize
     if count < 65536 { count } else { 65536 }
 }
 
-// Places the text of an input, with the record in `rec`, and gives its length.
+// Places the text of an input, with the record in `rec`, where the run leaves it, and gives its length.
 pub fn report(input: &[u8], rec: &mut [u8; 21380], out: &mut [u8; 349536]) -> usize
-    ensures { λ r. ⌜ (r ≡ length (text (now (rec .entry)) (now (input .entry)))) × (now (out .exit) ≡ place 0 (text (now (rec .entry)) (now (input .entry))) (now (out .entry))) ⌝ }
+    ensures text { λ r. ⌜ (r ≡ length (text (now (rec .entry)) (now (input .entry)))) × (now (out .exit) ≡ place 0 (text (now (rec .entry)) (now (input .entry))) (now (out .entry))) ⌝ }
+    ensures buffer { λ r. ⌜ now (rec .exit) ≡ held (now (rec .entry)) (now (input .entry)) ⌝ }
 {
     let count = used(input.len());
     put_text(rec, &input[..count], out)

@@ -22,10 +22,10 @@ report-requires : tie.Need-report-requires
 report-requires c κs = search needs
 
 array-share-prefix-out : tie.Need-array-share-prefix-out
-array-share-prefix-out c = placed-fits _ _ _ _ (c .report .ensures .0) (c .report .ensures .1)
+array-share-prefix-out c = placed-fits _ _ _ _ (c .report .ensures .0 .0) (c .report .ensures .0 .1)
 
 slice-aggregate-write-all : tie.Need-slice-aggregate-write-all
-slice-aggregate-write-all c = sym (length-take-le _ _ (placed-fits _ _ _ _ (c .before .report .ensures .0) (c .before .report .ensures .1)))
+slice-aggregate-write-all c = sym (length-take-le _ _ (placed-fits _ _ _ _ (c .before .report .ensures .0 .0) (c .before .report .ensures .0 .1)))
 
 write-all-requires : tie.Need-write-all-requires
 write-all-requires c κs = search needs

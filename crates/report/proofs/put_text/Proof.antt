@@ -1,7 +1,7 @@
 -- `report::put_text` meets its contract: a torn opening, a refused one, and one that the steps follow.
-use mathlib.Core.Path.{refl}
+use mathlib.Core.Path.{refl, _∙_}
 use native.Mathlib.Omega.{arith}
-use Rattle.report.proofs.Texts.{put-more, text-torn, text-refused, text-accepted, text-placed, steps-room}
+use Rattle.report.proofs.Texts.{put-more, text-torn, text-refused, text-accepted, text-placed, held-torn, held-refused, held-accepted, steps-room}
 use borrow.Author.Needs.{needs}
 use Rattle.report.proofs.put_text.Statement.{statement}
 use Rattle.report.proofs.put_text.Tie as tie
@@ -15,7 +15,10 @@ same-length c = search needs
 returns : tie.Need-returns
 returns c =
     let s = c .before .before .before .before .before .before .before .before in
-    text-placed _ _ _ (s .args .out .now) _ (text-torn (s .args .rec .now) (s .args .input .now) (s .pre .0) (c .before .before .before .before .if1 .taken)) (c .before .before .put-line .ensures)
+    let short = c .before .before .before .before .if1 .taken in (
+      text-placed _ _ _ (s .args .out .now) _ (text-torn (s .args .rec .now) (s .args .input .now) (s .pre .0) short) (c .before .before .put-line .ensures),
+      held-torn (s .args .rec .now) (s .args .input .now) (s .pre .0) short,
+    )
 
 shared-slice-read-wide : tie.Need-shared-slice-read-wide
 shared-slice-read-wide c = search needs
@@ -70,9 +73,17 @@ same-length-3 c = search needs
 returns-2 : tie.Need-returns-2
 returns-2 c =
     let s = c .before .before .before .before .before .before .before .before .before .before .before .before .before .before .before .before .before .before .before .before .before .before .before .before .before .before .before .before in
-    text-placed _ _ _ (s .args .out .now) _
-    (text-accepted (s .args .rec .now) (s .args .input .now) (s .pre .0) (c .before .before .before .before .before .before .before .before .before .before .before .before .before .before .before .before .before .before .before .before .before .before .before .before .if1 .left) _ _ _ (c .before .before .before .before .before .before .before .before .before .before .before .before .before .before .before .before .before .before .before .before .before .wide .ensures .0) (c .before .before .before .before .before .before .before .before .before .before .before .before .before .before .before .before .before .before .before .wide2 .ensures .0) (c .before .before .before .before .before .before .before .before .before .before .before .before .before .before .before .before .before .wide3 .ensures .0) _ _ (c .before .before .before .before .before .before .before .before .before .before .before .before .before .before .before .before .«open» .ensures .0) (c .before .before .before .before .before .before .before .before .before .before .before .before .before .before .before .before .«open» .ensures .1) _ (c .before .before .before .before .before .before .before .before .enum-told .given .1))
-    (put-more 0 _ _ _ _ (s .args .out .now) _ _ (omega arith) (c .before .before .before .before .before .before .before .before .before .before .before .before .put-line2 .ensures) (c .before .before .before .before .put-steps .ensures))
+    let opened = c .before .before .before .before .before .before .before .before .before .before .before .before .before .before .before .before .«open» .ensures in
+    let long = c .before .before .before .before .before .before .before .before .before .before .before .before .before .before .before .before .before .before .before .before .before .before .before .before .if1 .left in
+    let n = c .before .before .before .before .before .before .before .before .before .before .before .before .before .before .before .before .before .before .before .before .before .wide .ensures .0 in
+    let b = c .before .before .before .before .before .before .before .before .before .before .before .before .before .before .before .before .before .before .before .wide2 .ensures .0 in
+    let t = c .before .before .before .before .before .before .before .before .before .before .before .before .before .before .before .before .before .wide3 .ensures .0 in
+    let told = c .before .before .before .before .before .before .before .before .enum-told .given .1 in
+    let steps = c .before .before .before .before .put-steps .ensures in (
+      text-placed _ _ _ (s .args .out .now) _ (text-accepted (s .args .rec .now) (s .args .input .now) (s .pre .0) long _ _ _ n b t _ _ (opened .0) (opened .1) _ told)
+          (put-more 0 _ _ _ _ (s .args .out .now) _ _ (omega arith) (c .before .before .before .before .before .before .before .before .before .before .before .before .put-line2 .ensures) (steps .0)),
+      steps .1 ∙ held-accepted (s .args .rec .now) (s .args .input .now) (s .pre .0) long _ _ _ n b t _ _ (opened .0) (opened .1) _ told,
+    )
 
 same-length-4 : tie.Need-same-length-4
 same-length-4 c = search needs
@@ -83,7 +94,16 @@ same-length-5 c = search needs
 returns-3 : tie.Need-returns-3
 returns-3 c =
     let s = c .before .before .before .before .before .before .before .before .before .before .before .before .before .before .before .before .before .before .before .before in
-    text-placed _ _ _ (s .args .out .now) _ (text-refused (s .args .rec .now) (s .args .input .now) (s .pre .0) (c .before .before .before .before .before .before .before .before .before .before .before .before .before .before .before .before .if1 .left) _ _ _ (c .before .before .before .before .before .before .before .before .before .before .before .before .before .wide .ensures .0) (c .before .before .before .before .before .before .before .before .before .before .before .wide2 .ensures .0) (c .before .before .before .before .before .before .before .before .before .wide3 .ensures .0) _ _ (c .before .before .before .before .before .before .before .before .«open» .ensures .0) (c .before .before .before .before .before .before .before .before .«open» .ensures .1) _ (c .enum-told2 .given .1)) (c .before .before .before .before .put-line2 .ensures)
+    let opened = c .before .before .before .before .before .before .before .before .«open» .ensures in
+    let long = c .before .before .before .before .before .before .before .before .before .before .before .before .before .before .before .before .if1 .left in
+    let n = c .before .before .before .before .before .before .before .before .before .before .before .before .before .wide .ensures .0 in
+    let b = c .before .before .before .before .before .before .before .before .before .before .before .wide2 .ensures .0 in
+    let t = c .before .before .before .before .before .before .before .before .before .wide3 .ensures .0 in
+    let told = c .enum-told2 .given .1 in (
+      text-placed _ _ _ (s .args .out .now) _ (text-refused (s .args .rec .now) (s .args .input .now) (s .pre .0) long _ _ _ n b t _ _ (opened .0) (opened .1) _ told)
+          (c .before .before .before .before .put-line2 .ensures),
+      held-refused (s .args .rec .now) (s .args .input .now) (s .pre .0) long _ _ _ n b t _ _ (opened .0) (opened .1) _ told,
+    )
 
 pub put-text-spec : {M : Type 1} → statement M
 put-text-spec =

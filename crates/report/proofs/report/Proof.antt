@@ -1,5 +1,5 @@
 -- `report::report` meets its contract: the bytes past those that are used do not matter.
-use Rattle.report.proofs.Texts.{text-used, used-length}
+use Rattle.report.proofs.Texts.{text-used, held-used, used-length}
 use borrow.Author.Needs.{needs}
 use Rattle.report.proofs.report.Statement.{statement}
 use Rattle.report.proofs.report.Tie as tie
@@ -16,7 +16,10 @@ put-text-requires c κs = (used-length (c .before .before .before .before .befor
 returns : tie.Need-returns
 returns c =
     let s = c .before .before .before .before .before .before in
-    (rw (text-used (s .args .rec .now) (s .args .input .now) _ (c .before .before .before .before .used .ensures)) at (c .put-text .ensures))
+    let n = c .before .before .before .before .used .ensures in (
+      rw (text-used (s .args .rec .now) (s .args .input .now) _ n) at (c .put-text .ensures .0),
+      rw (held-used (s .args .rec .now) (s .args .input .now) _ n) at (c .put-text .ensures .1),
+    )
 
 pub report-spec : {M : Type 1} → statement M
 report-spec = tie.close (tie.spec used-requires slice-aggregate-put-text put-text-requires returns)
