@@ -1,5 +1,5 @@
 -- A run over a list: what is left of the list, given to what there is by now, makes what the whole makes from the start.
-use Prim.Native.Nat.{ℕ, zero, suc, _+_, _-_, _≤_, _<_}
+use Prim.Native.Nat.{ℕ, suc, _+_, _-_, _≤_, _<_}
 use native.Mathlib.Nat.{sub-zero, zero-add, add-zero}
 use native.Mathlib.Numerals.{add-one}
 use native.Mathlib.Omega.{arith}
@@ -8,36 +8,17 @@ use mathlib.Core.Bool.{Bool, true, false, _&&_}
 use mathlib.Core.List.{List, [], _∷_, _++_, map, append-assoc}
 use lib.ListN.{length, set, take, drop, length-set, length-drop, take-append-drop}
 use lib.Dec.{ltb}
-use mathlib.Core.Logic.{_⊎_, inl, inr, ⊎-elim}
+use mathlib.Core.Logic.{inl, inr, ⊎-elim}
 use borrow.Author.Tests.{ltb-true, ltb-false, lt-ltb}
 use Rattle.base.proofs.Tests.{lt-or-le, and-known, and-l, and-r}
 use lib.Seq.{drop-drop, take-suc-set, drop-set-lt, length-take-le}
 use Rattle.base.specs.Folds.{sum}
-use Rattle.engine.specs.Step.{stepTold, stepAfter}
-use Rattle.engine.specs.Cut.{cutAt, cuts}
+use Rattle.judging.specs.Step.{stepTold, stepAfter}
+use Rattle.cuts.specs.Cut.{cutAt, cuts}
+use Rattle.cuts.proofs.Cutting.{cuts-first, cuts-none, cuts-zero, span}
 use Rattle.engine.specs.Lists.{after, replies}
-use Rattle.engine.specs.Packing.{packedReply}
+use Rattle.packing.specs.Packing.{packedReply}
 use Rattle.engine.specs.Run.{given, Ran}
-
--- the first record, and the others
-pub cuts-first : (k : ℕ) (s : List ℕ) → 0 < length s → cuts (suc k) s ≡ take (cutAt s) s ∷ cuts k (drop (cutAt s) s)
-unfolding cuts
-cuts-first k [] l = absurd (omega arith)
-cuts-first k (x ∷ s) l = refl
-
-pub cuts-none : (k : ℕ) (s : List ℕ) → length s ≡ 0 → cuts k s ≡ []
-unfolding cuts
-cuts-none zero s e = refl
-cuts-none (suc k) [] e = refl
-cuts-none (suc k) (x ∷ s) e = absurd (omega arith)
-
-cuts-zero : (s : List ℕ) → cuts 0 s ≡ []
-unfolding cuts
-cuts-zero s = refl
-
--- the bytes of a list from a place to another
-abbrev pub span : List ℕ → ℕ → ℕ → List ℕ
-span list place end = take (end - place) (drop place list)
 
 module _ (rec₀ list : List ℕ) (at : ℕ) (out₀ : List ℕ) where
   -- the records that are left

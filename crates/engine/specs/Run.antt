@@ -4,9 +4,9 @@ use mathlib.Core.Path.{_≡_}
 use mathlib.Core.List.{List, _++_, map}
 use lib.ListN.{length, drop}
 use Rattle.base.specs.Folds.{sum}
-use Rattle.engine.specs.Cut.{cuts}
+use Rattle.cuts.specs.Cut.{cuts}
 use Rattle.engine.specs.Lists.{after, replies}
-use Rattle.engine.specs.Packing.{packedReply}
+use Rattle.packing.specs.Packing.{packedReply}
 
 -- the records from a place of the list on, as many as there are places for replies
 abbrev pub given : List ℕ → ℕ → List ℕ → List (List ℕ)

@@ -84,6 +84,13 @@ digits-next (suc j) v out h k =
     (rw (set-split out j (v % 256) k, drop-at (take j out) (v % 256 ∷ drop (suc j) out) j (length-take-le j out (omega arith)))
     (sym (append-snoc (digits j (v / 256)) (v % 256) (drop (suc j) out))))
 
+-- two bytes from a place on, and the number that they make
+pub number-two : (p : ℕ) (s : List ℕ) → p + 2 ≤ length s → number (take 2 (drop p s)) ≡ getD s p 0 * 256 + getD s (p + 1) 0
+number-two p s l =
+    let first : p < length s = omega arith in
+    let second : suc p < length s = omega arith in
+    rw (drop-cons s p 0 first, drop-cons s (suc p) 0 second, add-one) (omega arith)
+
 -- four bytes from a place on, and the number that they make
 pub four : (p : ℕ) (s : List ℕ) → p + 4 ≤ length s → drop p s ≡ getD s p 0 ∷ getD s (p + 1) 0 ∷ getD s (p + 2) 0 ∷ getD s (p + 3) 0 ∷ drop (p + 4) s
 four p [] l = absurd (omega arith)

@@ -4,7 +4,7 @@ use mathlib.Core.Path.{_≡_}
 use mathlib.Core.Bool.{true}
 use mathlib.Core.List.{List}
 use lib.ListN.{length, getD}
-use Rattle.record.specs.Sound.{wellFormed}
+use Rattle.record.specs.Sound.{wellFormed, soundBytes}
 
 -- a well-formed record of sizes that the layout has room for
 pub record Whole (s : List ℕ) : Type 0 where
@@ -19,3 +19,8 @@ pub record InCell (s : List ℕ) (b c : ℕ) : Type 0 where
   pub whole : Whole s
   pub block : b < getD s 1 0
   pub component : c ≤ getD s 0 0
+
+-- a sound record, and what follows from that for its places
+pub record Ready (s : List ℕ) : Type 0 where
+  pub sound : soundBytes s ≡ true
+  pub whole : Whole s

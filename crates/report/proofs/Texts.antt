@@ -22,10 +22,10 @@ use Rattle.protocol.specs.declared.Answer.the-variants.{Done, Word}
 use Rattle.protocol.specs.declared.Reply.{Reply}
 use Rattle.protocol.specs.declared.Reply.the-variants.{Accepted, Refused}
 use Rattle.opening.specs.Opening.{openTold, openAfter}
-use Rattle.engine.specs.Step.{stepTold, stepAfter}
-use Rattle.engine.specs.Cut.{cutAt, cuts}
+use Rattle.judging.specs.Step.{stepTold, stepAfter}
+use Rattle.cuts.specs.Cut.{cutAt, cuts}
 use Rattle.engine.specs.Lists.{replies, after}
-use Rattle.engine.proofs.Running.{cuts-first, cuts-none, span}
+use Rattle.cuts.proofs.Cutting.{cuts-first, cuts-none, span}
 use Rattle.report.specs.Text.{digit, decimal, hexadecimal, said, line, lines, stepLines, text, afterSteps, held}
 
 -- ---- lengths

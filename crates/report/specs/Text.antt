@@ -10,7 +10,7 @@ use Rattle.protocol.specs.declared.Answer.the-variants.{Done, Word}
 use Rattle.protocol.specs.declared.Reply.{Reply}
 use Rattle.protocol.specs.declared.Reply.the-variants.{Accepted, Refused}
 use Rattle.opening.specs.Opening.{openTold, openAfter}
-use Rattle.engine.specs.Cut.{cuts}
+use Rattle.cuts.specs.Cut.{cuts}
 use Rattle.engine.specs.Lists.{replies, after}
 
 -- a digit in ASCII, lower case above 9

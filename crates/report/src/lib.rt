@@ -4,7 +4,7 @@ ghost use Prim.Native.Nat.{_+_, _*_, _/_, _≤_, _<_, min};
 ghost use mathlib.Core.List.{[], _∷_};
 ghost use lib.ListN.{length};
 ghost use Rattle.base.specs.Placing.{place};
-ghost use Rattle.engine.specs.Cut.{cuts};
+ghost use Rattle.cuts.specs.Cut.{cuts};
 ghost use Rattle.engine.specs.Lists.{replies, after};
 ghost use Rattle.report.specs.Text.{digit, decimal, hexadecimal, said, line, lines, text, held};
 use base::wide;
@@ -100,7 +100,7 @@ fn put_steps(rec: &mut [u8], list: &[u8], out: &mut [u8], at: usize) -> usize
     let mut place: usize = 0;
     let mut made: u64 = 0;
     while place < list.len() {
-        let end = engine::cut_end(list, place);
+        let end = cuts::cut_end(list, place);
         let reply = engine::step(rec, &list[place..end]);
         made += 1;
         to = put_line(out, to, made, reply);

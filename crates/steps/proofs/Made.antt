@@ -13,10 +13,9 @@ use Rattle.protocol.specs.Rules.{check, answer, after, rules}
 use Rattle.protocol.specs.Memory.{reply}
 use Rattle.layout.specs.Number.{Bytes}
 use Rattle.record.specs.Record.{get, put}
-use Rattle.record.specs.Needs.{Whole}
+use Rattle.record.specs.Needs.{Whole, Ready}
 use Rattle.record.proofs.Record.{put-get}
 use Rattle.record.proofs.Leaves.{formed}
-use Rattle.changes.specs.Needs.{Ready}
 use Rattle.steps.specs.Apply.{recordAfter}
 
 pub asked : (s : List ℕ) {t u : Step} → t ≡ u → Ready s × (check (get s) t ≡ Pass) → Ready s × (check (get s) u ≡ Pass)

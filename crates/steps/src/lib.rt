@@ -4,8 +4,7 @@ ghost use Rattle.refusals.specs.declared.Check.the-variants.{Pass};
 ghost use Rattle.protocol.specs.Rules.{check, answer, after, rules};
 ghost use Rattle.protocol.specs.Memory.{reply};
 ghost use Rattle.record.specs.Record.{get, put};
-ghost use Rattle.record.specs.Needs.{Whole};
-ghost use Rattle.changes.specs.Needs.{Ready};
+ghost use Rattle.record.specs.Needs.{Whole, Ready};
 ghost use Rattle.steps.specs.Apply.{recordAfter};
 use kinds::Step;
 use protocol::Answer;
@@ -22,13 +21,13 @@ pub fn check(rec: &[u8], step: Step) -> Check
             component,
             block,
             word,
-        } => checks::load(rec, component, block, word),
+        } => access::load_check(rec, component, block, word),
         Step::Store {
             component,
             block,
             word,
             value,
-        } => checks::store(rec, component, block, word, value),
+        } => access::store_check(rec, component, block, word, value),
         Step::Send {
             component,
             block,
@@ -36,11 +35,11 @@ pub fn check(rec: &[u8], step: Step) -> Check
             plain,
             owner,
             data,
-        } => checks::send(rec, component, block, target, plain, owner, data),
-        Step::Deliver { position } => checks::deliver(rec, position),
-        Step::Raise { component, block } => checks::raise(rec, component, block),
-        Step::Lower { component, block } => checks::lower(rec, component, block),
-        Step::Forward { component, block } => checks::forward(rec, component, block),
+        } => sendable::send_check(rec, component, block, target, plain, owner, data),
+        Step::Deliver { position } => delivery::deliver_check(rec, position),
+        Step::Raise { component, block } => claiming::raise_check(rec, component, block),
+        Step::Lower { component, block } => claiming::lower_check(rec, component, block),
+        Step::Forward { component, block } => sendable::forward_check(rec, component, block),
     }
 }
 
@@ -55,14 +54,14 @@ pub fn change(rec: &mut [u8], step: Step) -> Answer
             component,
             block,
             word,
-        } => changes::load(rec, component, block, word),
+        } => access::load(rec, component, block, word),
         Step::Store {
             component,
             block,
             word,
             value,
         } => {
-            changes::store(rec, component, block, word, value);
+            access::store(rec, component, block, word, value);
             Answer::Done
         }
         Step::Send {
@@ -73,23 +72,23 @@ pub fn change(rec: &mut [u8], step: Step) -> Answer
             owner,
             data,
         } => {
-            changes::send(rec, component, block, target, plain, owner, data);
+            sending::send(rec, component, block, target, plain, owner, data);
             Answer::Done
         }
         Step::Deliver { position } => {
-            changes::deliver(rec, position);
+            delivery::deliver(rec, position);
             Answer::Done
         }
         Step::Raise { component, block } => {
-            changes::raise(rec, component, block);
+            claiming::raise(rec, component, block);
             Answer::Done
         }
         Step::Lower { component, block } => {
-            changes::lower(rec, component, block);
+            claiming::lower(rec, component, block);
             Answer::Done
         }
         Step::Forward { component, block } => {
-            changes::forward(rec, component, block);
+            sending::forward(rec, component, block);
             Answer::Done
         }
     }

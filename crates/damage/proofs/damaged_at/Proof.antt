@@ -1,6 +1,6 @@
+-- `damage::damaged_at` is safe and ends. The invariant: the count is below the number of values tried.
 use native.Mathlib.Omega.{arith}
 use mathlib.Core.Logic.{⊎-elim}
--- `damage::damaged_at` is safe and ends. The invariant: the count is below the number of values tried.
 use Prim.Native.Nat.{_≤_, _+_, _-_}
 use borrow.Author.Needs.{needs}
 use Rattle.damage.proofs.damaged_at.Statement.{statement}

@@ -1,6 +1,6 @@
-use mathlib.Core.Path.{refl}
-use Rattle.engine.specs.Packing.{packedReply}
 -- `engine::run` meets its contract. The invariant: what is left of the list, given to what there is by now, makes what the whole makes; and soundness is as it was.
+use mathlib.Core.Path.{refl}
+use Rattle.packing.specs.Packing.{packedReply}
 use native.Mathlib.Omega.{arith}
 use lib.ListN.{length, getD}
 use Prim.Native.Nat.{ℕ, _-_, _<_}
@@ -47,8 +47,8 @@ part-next-end c = search needs
 next-requires : tie.Need-next-requires Inv-loop μ-loop
 next-requires c κs = search needs
 
-pack-reply-requires : tie.Need-pack-reply-requires Inv-loop μ-loop
-pack-reply-requires c κs = search needs
+reply-requires : tie.Need-reply-requires Inv-loop μ-loop
+reply-requires c κs = search needs
 
 mul-replies : tie.Need-mul-replies Inv-loop μ-loop
 mul-replies c = search needs
@@ -71,7 +71,7 @@ loop-again c = let s = c .before .before .before .before .before .before .before
     let n = c .before .before .before .next in
     let q = goes (s .args .rec .now) (s .args .list .now) (s .args .at .now) (s .args .replies .now) (l .rec) (l .replies) (l .place) (l .made) (l .inv .0) (c .before .before .before .before .before .before .before .before .both .result) (c .before .before .before .before .before .before .before .before .both .ensures) (c .before .before .before .before .before .before .before .if1 .taken) in (
       going-more (s .args .rec .now) (s .args .list .now) (s .args .at .now) (s .args .replies .now) (l .rec) (l .replies) (l .place) (l .made) (l .inv .0) (q .0) (q .1)
-          (c .before .before .before .before .before .before .cut .result) (c .before .before .before .before .before .before .cut .ensures .0) (c .pack-reply .result) (n .last .0) (c .pack-reply .ensures ∙ ap packedReply (n .ensures .0)) (n .ensures .1),
+          (c .before .before .before .before .before .before .cut .result) (c .before .before .before .before .before .before .cut .ensures .0) (c .reply .result) (n .last .0) (c .reply .ensures ∙ ap packedReply (n .ensures .0)) (n .ensures .1),
       (
         l .inv .1 .0 ∙ sym (ap soundBytes (n .ensures .1) ∙ sound-kept (l .rec) (l .inv .1 .1 .0) _),
         (λ k. c .before .slice-known3 .given k .fits, n .kept .0 ∙ l .inv .1 .1 .1),
@@ -103,7 +103,7 @@ run-spec =
     part-next-start
     part-next-end
     next-requires
-    pack-reply-requires
+    reply-requires
     mul-replies
     slice-write-replies
     add-made

@@ -1,6 +1,6 @@
 -- `engine::step` meets its contract: what was read decides, then soundness.
 use mathlib.Core.Path.{refl}
-use Rattle.engine.proofs.Judging.{stepped}
+use Rattle.judging.proofs.Judging.{stepped}
 use borrow.Author.Needs.{needs}
 use Rattle.engine.proofs.step.Statement.{statement}
 use Rattle.engine.proofs.step.Tie as tie

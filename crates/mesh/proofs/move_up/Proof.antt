@@ -1,5 +1,5 @@
-use borrow.Author.Needs.{needs}
 -- `mesh::move_up` meets its contract. The invariant: the first i bytes are those from 38 places further on.
+use borrow.Author.Needs.{needs}
 use Rattle.record.proofs.Leaves.{moved, moved-none, moved-more}
 use mathlib.Core.Path.{_≡_, refl, ap, _∙_}
 use lib.ListN.{length, getD, set, length-set}

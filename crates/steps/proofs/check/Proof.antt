@@ -6,98 +6,98 @@ use Rattle.steps.proofs.check.Tie as tie
 enum-known-step : tie.Need-enum-known-step
 enum-known-step c = search needs
 
-load-requires : tie.Need-load-requires
-load-requires c κs = search needs
+load-check-requires : tie.Need-load-check-requires
+load-check-requires c κs = search needs
 
 enum-known-step-2 : tie.Need-enum-known-step-2
 enum-known-step-2 c = search needs
 
-store-requires : tie.Need-store-requires
-store-requires c κs = search needs
+store-check-requires : tie.Need-store-check-requires
+store-check-requires c κs = search needs
 
 enum-known-step-3 : tie.Need-enum-known-step-3
 enum-known-step-3 c = search needs
 
-send-requires : tie.Need-send-requires
-send-requires c κs = search needs
+send-check-requires : tie.Need-send-check-requires
+send-check-requires c κs = search needs
 
 enum-known-step-4 : tie.Need-enum-known-step-4
 enum-known-step-4 c = search needs
 
-deliver-requires : tie.Need-deliver-requires
-deliver-requires c κs = search needs
+deliver-check-requires : tie.Need-deliver-check-requires
+deliver-check-requires c κs = search needs
 
 enum-known-step-5 : tie.Need-enum-known-step-5
 enum-known-step-5 c = search needs
 
-raise-requires : tie.Need-raise-requires
-raise-requires c κs = search needs
+raise-check-requires : tie.Need-raise-check-requires
+raise-check-requires c κs = search needs
 
 enum-known-step-6 : tie.Need-enum-known-step-6
 enum-known-step-6 c = search needs
 
-lower-requires : tie.Need-lower-requires
-lower-requires c κs = search needs
+lower-check-requires : tie.Need-lower-check-requires
+lower-check-requires c κs = search needs
 
 enum-known-step-7 : tie.Need-enum-known-step-7
 enum-known-step-7 c = search needs
 
-forward-requires : tie.Need-forward-requires
-forward-requires c κs = search needs
+forward-check-requires : tie.Need-forward-check-requires
+forward-check-requires c κs = search needs
 
 returns : tie.Need-returns
 returns c =
     let c2 = c .before .before in
-    rw (c2 .step .given .1) (c .load .ensures)
+    rw (c2 .step .given .1) (c .load-check .ensures)
 
 returns-2 : tie.Need-returns-2
 returns-2 c =
     let c2 = c .before .before in
-    rw (c2 .step2 .given .1) (c .store .ensures)
+    rw (c2 .step2 .given .1) (c .store-check .ensures)
 
 returns-3 : tie.Need-returns-3
 returns-3 c =
     let c2 = c .before .before in
-    rw (c2 .step3 .given .1) (c .send .ensures)
+    rw (c2 .step3 .given .1) (c .send-check .ensures)
 
 returns-4 : tie.Need-returns-4
 returns-4 c =
     let c2 = c .before .before in
-    rw (c2 .step4 .given .1) (c .deliver .ensures)
+    rw (c2 .step4 .given .1) (c .deliver-check .ensures)
 
 returns-5 : tie.Need-returns-5
 returns-5 c =
     let c2 = c .before .before in
-    rw (c2 .step5 .given .1) (c .raise .ensures)
+    rw (c2 .step5 .given .1) (c .raise-check .ensures)
 
 returns-6 : tie.Need-returns-6
 returns-6 c =
     let c2 = c .before .before in
-    rw (c2 .step6 .given .1) (c .lower .ensures)
+    rw (c2 .step6 .given .1) (c .lower-check .ensures)
 
 returns-7 : tie.Need-returns-7
 returns-7 c =
     let c2 = c .before .before in
-    rw (c2 .step7 .given .1) (c .forward .ensures)
+    rw (c2 .step7 .given .1) (c .forward-check .ensures)
 
 pub check-spec : {M : Type 1} → statement M
 check-spec =
     tie.close
     (tie.spec
     enum-known-step
-    load-requires
+    load-check-requires
     enum-known-step-2
-    store-requires
+    store-check-requires
     enum-known-step-3
-    send-requires
+    send-check-requires
     enum-known-step-4
-    deliver-requires
+    deliver-check-requires
     enum-known-step-5
-    raise-requires
+    raise-check-requires
     enum-known-step-6
-    lower-requires
+    lower-check-requires
     enum-known-step-7
-    forward-requires
+    forward-check-requires
     returns
     returns-2
     returns-3

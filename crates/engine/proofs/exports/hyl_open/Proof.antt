@@ -1,5 +1,5 @@
 -- `engine::exports::hyl_open` meets its contract: the opening, its reply packed.
-use Rattle.engine.specs.Packing.{packedReply}
+use Rattle.packing.specs.Packing.{packedReply}
 use mathlib.Core.Path.{ap, _∙_}
 use borrow.Author.Needs.{needs}
 use Rattle.engine.proofs.exports.hyl_open.Statement.{statement}
@@ -8,14 +8,14 @@ use Rattle.engine.proofs.exports.hyl_open.Tie as tie
 open-requires : tie.Need-open-requires
 open-requires c κs = search needs
 
-pack-reply-requires : tie.Need-pack-reply-requires
-pack-reply-requires c κs = search needs
+reply-requires : tie.Need-reply-requires
+reply-requires c κs = search needs
 
 same-length : tie.Need-same-length
 same-length c = search needs
 
 returns : tie.Need-returns
-returns c = (c .pack-reply .ensures ∙ ap packedReply (c .before .before .before .«open» .ensures .0), c .before .before .before .«open» .ensures .1)
+returns c = (c .reply .ensures ∙ ap packedReply (c .before .before .before .«open» .ensures .0), c .before .before .before .«open» .ensures .1)
 
 pub hyl-open-spec : {M : Type 1} → statement M
-hyl-open-spec = tie.close (tie.spec open-requires pack-reply-requires same-length returns)
+hyl-open-spec = tie.close (tie.spec open-requires reply-requires same-length returns)

@@ -1,5 +1,5 @@
 -- `engine::exports::hyl_step` meets its contract: the step, its reply packed.
-use Rattle.engine.specs.Packing.{packedReply}
+use Rattle.packing.specs.Packing.{packedReply}
 use mathlib.Core.Path.{ap, _∙_}
 use borrow.Author.Needs.{needs}
 use Rattle.engine.proofs.exports.hyl_step.Statement.{statement}
@@ -8,14 +8,14 @@ use Rattle.engine.proofs.exports.hyl_step.Tie as tie
 step-requires : tie.Need-step-requires
 step-requires c κs = search needs
 
-pack-reply-requires : tie.Need-pack-reply-requires
-pack-reply-requires c κs = search needs
+reply-requires : tie.Need-reply-requires
+reply-requires c κs = search needs
 
 same-length : tie.Need-same-length
 same-length c = search needs
 
 returns : tie.Need-returns
-returns c = (c .pack-reply .ensures ∙ ap packedReply (c .before .before .before .step .ensures .0), c .before .before .before .step .ensures .1)
+returns c = (c .reply .ensures ∙ ap packedReply (c .before .before .before .step .ensures .0), c .before .before .before .step .ensures .1)
 
 pub hyl-step-spec : {M : Type 1} → statement M
-hyl-step-spec = tie.close (tie.spec step-requires pack-reply-requires same-length returns)
+hyl-step-spec = tie.close (tie.spec step-requires reply-requires same-length returns)

@@ -1,5 +1,5 @@
-use borrow.Author.Needs.{needs}
 -- `record::words::put_words` meets its contract. The invariant: the first i words are written.
+use borrow.Author.Needs.{needs}
 use Rattle.layout.proofs.Laws.{cut}
 use Rattle.layout.specs.Layout.{over, big, writeItems}
 use Rattle.record.proofs.Leaves.{lined-more, lined-all}

@@ -1,7 +1,7 @@
+-- `record::words::words_at` meets its contract. The invariant: the first i words are read.
 use Rattle.base.proofs.Folds.{at-set}
 use lib.ListN.{length-set}
 use borrow.Author.Needs.{needs}
--- `record::words::words_at` meets its contract. The invariant: the first i words are read.
 use Rattle.layout.specs.Layout.{big, part}
 use Rattle.record.proofs.Leaves.{words-read}
 use mathlib.Core.Path.{_≡_, sym, ap, _∙_}

@@ -1,3 +1,0 @@
-pub mod Moves
-pub mod Passed
-pub mod Tokens

@@ -1,3 +1,0 @@
-pub mod Claimed
-pub mod OnRack
-pub mod Verdicts

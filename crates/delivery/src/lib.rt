@@ -1,0 +1,36 @@
+// Deliver: its line of the refusal table, and the message that comes to its target where it passes.
+ghost use mathlib.Core.Path.{_≡_};
+ghost use Rattle.refusals.specs.declared.Check.the-variants.{Pass};
+ghost use Rattle.protocol.specs.Rules.{check, after};
+ghost use Rattle.record.specs.Record.{get, put};
+ghost use Rattle.record.specs.Needs.{Whole, Ready};
+use kinds::Step;
+use refusals::Check;
+use refusals::Refusal;
+
+pub fn deliver_check(rec: &[u8], position: u8) -> Check
+    requires { ⌜ Whole (now rec) ⌝ }
+    ensures { λ r. ⌜ r ≡ check (get (now (rec .entry))) (Step.Deliver position) ⌝ }
+{
+    if rec[3] <= position {
+        return Check::Refuse(Refusal::NoMessage);
+    }
+    Check::Pass
+}
+
+pub fn deliver(rec: &mut [u8], position: u8)
+    requires { ⌜ Ready (now rec) × (check (get (now rec)) (Step.Deliver position) ≡ Pass) ⌝ }
+    ensures { λ r. ⌜ now (rec .exit) ≡ put (after (get (now (rec .entry))) (Step.Deliver position)) (now (rec .entry)) ⌝ }
+{
+    let m = mesh::message_at(rec, position);
+    mesh::remove(rec, position);
+    let block = m.block;
+    let target = m.target;
+    let marks = marks::more(cells::marks_of(rec, block, target), m);
+    if m.data {
+        let words = m.words;
+        cells::set_cell(rec, block, target, marks, words);
+    } else {
+        cells::set_marks(rec, block, target, marks);
+    }
+}

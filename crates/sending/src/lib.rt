@@ -1,0 +1,84 @@
+// Send and forward: the tokens taken and the message made where they pass.
+ghost use mathlib.Core.Path.{_≡_};
+ghost use mathlib.Core.Bool.{cond};
+ghost use Rattle.refusals.specs.declared.Check.the-variants.{Pass};
+ghost use Rattle.protocol.specs.Rack.{zeros, cellAt};
+ghost use Rattle.protocol.specs.Rules.{sent, check, after};
+ghost use Rattle.record.specs.Record.{get, put};
+ghost use Rattle.record.specs.Needs.{InCell, Ready};
+ghost use Rattle.verdicts.specs.Sendable.{CanSend};
+use kinds::Step;
+use protocol::Message;
+
+// The words that go with a message.
+fn cargo(rec: &[u8], component: u8, block: u8, data: bool) -> [u32; 8]
+    requires { ⌜ InCell (now rec) block component ⌝ }
+    ensures { λ r. ⌜ r ≡ cond «data» (cellAt (get (now (rec .entry))) block component .words) zeros ⌝ }
+{
+    if data {
+        return cells::words_of(rec, block, component);
+    }
+    [0; 8]
+}
+
+// Takes the tokens from the component and appends the message.
+fn dispatch(
+    rec: &mut [u8],
+    component: u8,
+    block: u8,
+    target: u8,
+    plain: u8,
+    owner: bool,
+    data: bool,
+)
+    requires { ⌜ CanSend (now rec) component block plain ⌝ }
+    ensures { λ r. ⌜ now (rec .exit) ≡ put (sent (get (now (rec .entry))) component block target plain owner «data») (now (rec .entry)) ⌝ }
+{
+    let marks = cells::marks_of(rec, block, component);
+    let words = cargo(rec, component, block, data);
+    mesh::append(
+        rec,
+        Message {
+            sender: component,
+            target,
+            block,
+            plain,
+            owner,
+            data,
+            words,
+        },
+    );
+    cells::set_marks(rec, block, component, marks::less(marks, plain, owner));
+}
+
+pub fn send(
+    rec: &mut [u8],
+    component: u8,
+    block: u8,
+    target: u8,
+    plain: u8,
+    owner: bool,
+    data: bool,
+)
+    requires { ⌜ Ready (now rec) × (check (get (now rec)) (Step.Send component block target plain owner «data») ≡ Pass) ⌝ }
+    ensures { λ r. ⌜ now (rec .exit) ≡ put (after (get (now (rec .entry))) (Step.Send component block target plain owner «data»)) (now (rec .entry)) ⌝ }
+{
+    dispatch(rec, component, block, target, plain, owner, data);
+}
+
+pub fn forward(rec: &mut [u8], component: u8, block: u8)
+    requires { ⌜ Ready (now rec) × (check (get (now rec)) (Step.Forward component block) ≡ Pass) ⌝ }
+    ensures { λ r. ⌜ now (rec .exit) ≡ put (after (get (now (rec .entry))) (Step.Forward component block)) (now (rec .entry)) ⌝ }
+{
+    let target = claims::active_at(rec, verdicts::claims_place(block));
+    let marks = cells::marks_of(rec, block, component);
+    dispatch(
+        rec,
+        component,
+        block,
+        target,
+        marks.plain,
+        marks.owner,
+        marks.valid,
+    );
+}

@@ -1,0 +1,4 @@
+pub mod Claimed
+pub mod OnRack
+pub mod Verdicts
+pub mod Passed
