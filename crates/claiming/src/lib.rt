@@ -38,7 +38,7 @@ pub fn raise(rec: &mut [u8], component: u8, block: u8)
     requires { ⌜ Ready (now rec) × (check (get (now rec)) (Step.Raise component block) ≡ Pass) ⌝ }
     ensures { λ r. ⌜ now (rec .exit) ≡ put (after (get (now (rec .entry))) (Step.Raise component block)) (now (rec .entry)) ⌝ }
 {
-    claims::raise_at(rec, verdicts::claims_place(block), component);
+    claims_change::raise_at(rec, verdicts::claims_place(block), component);
 }
 
 pub fn lower(rec: &mut [u8], component: u8, block: u8)
@@ -46,5 +46,5 @@ pub fn lower(rec: &mut [u8], component: u8, block: u8)
     ensures { λ r. ⌜ now (rec .exit) ≡ put (after (get (now (rec .entry))) (Step.Lower component block)) (now (rec .entry)) ⌝ }
 {
     let boards = rec[0];
-    claims::lower_at(rec, verdicts::claims_place(block), boards, component);
+    claims_change::lower_at(rec, verdicts::claims_place(block), boards, component);
 }

@@ -1,17 +1,12 @@
 // The claims on a block as bytes of a lent record: sixteen sets of two bytes from the place `at` on, the high byte first.
 // Set 0 is the waiting set, and set i the barring set of board i.
 ghost use mathlib.Core.Path.{_≡_};
-ghost use mathlib.Core.Bool.{_&&_};
 ghost use Prim.Native.Nat.{ℕ, _+_, _≤_, _<_};
-ghost use lib.Dec.{eqb};
 ghost use lib.ListN.{length};
-ghost use Rattle.base.specs.Folds.{implies};
 ghost use Rattle.layout.specs.Layout.{big, part, over};
-ghost use Rattle.arbiter.specs.Boards.{member, empty, subset};
-ghost use Rattle.arbiter.specs.Claims.{waiting, active, raiseCheck, raised, lowerCheck, lowered, soundClaims};
-ghost use Rattle.claims.specs.ClaimBytes.{claimsAt, putClaims};
+ghost use Rattle.arbiter.specs.Claims.{waiting, active, raiseCheck, lowerCheck};
+ghost use Rattle.claims.specs.ClaimBytes.{claimsAt};
 use arbiter::sets;
-use base::clear;
 use refusals::Check;
 use refusals::Refusal;
 
@@ -22,7 +17,7 @@ fn wide(byte: u8) -> u16
 }
 
 // The set at a place.
-fn read_set(s: &[u8], at: usize) -> u16
+pub fn read_set(s: &[u8], at: usize) -> u16
     requires { ⌜ at + 2 ≤ length (now s) ⌝ }
     ensures { λ r. ⌜ r ≡ big 2 .read (part at 2 (now (s .entry))) ⌝ }
 {
@@ -31,7 +26,7 @@ fn read_set(s: &[u8], at: usize) -> u16
     high * 256 + low
 }
 
-fn write_set(s: &mut [u8], at: usize, boards: u16)
+pub fn write_set(s: &mut [u8], at: usize, boards: u16)
     requires { ⌜ at + 2 ≤ length (now s) ⌝ }
     ensures { λ r. ⌜ now (s .exit) ≡ over at 2 (big 2 .write boards) (now (s .entry)) ⌝ }
 {
@@ -71,15 +66,6 @@ pub fn raise_check(rec: &[u8], at: usize, board: u8) -> Check
     Check::Pass
 }
 
-// The board joins the waiting set.
-pub fn raise_at(rec: &mut [u8], at: usize, board: u8)
-    requires { ⌜ (at + 32 ≤ length (now rec)) × (board < 16) ⌝ }
-    ensures { λ r. ⌜ ((n : ℕ) → n < 16 → now (rec .exit) ≡ putClaims n at (raised (claimsAt n at (now (rec .entry))) board) (now (rec .entry))) ⌝ }
-{
-    let w = read_set(rec, at);
-    write_set(rec, at, sets::insert(w, board));
-}
-
 // The verdict on a board's lower.
 pub fn lower_check(rec: &[u8], at: usize, board: u8) -> Check
     requires { ⌜ (at + 32 ≤ length (now rec)) × (board < 16) ⌝ }
@@ -90,62 +76,4 @@ pub fn lower_check(rec: &[u8], at: usize, board: u8) -> Check
         return Check::Pass;
     }
     Check::Refuse(Refusal::NotWaiting)
-}
-
-// The board leaves the waiting set and every barring set; its own barring set becomes the waiting set that remains.
-pub fn lower_at(rec: &mut [u8], at: usize, boards: u8, board: u8)
-    requires { ⌜ (at + 32 ≤ length (now rec)) × (1 ≤ board) × (board ≤ boards) × (boards < 16) ⌝ }
-    ensures { λ r. ⌜ now (rec .exit) ≡ putClaims boards at (lowered (claimsAt boards at (now (rec .entry))) board) (now (rec .entry)) ⌝ }
-{
-    let count = boards as usize + 1;
-    let mut i = 0;
-    while i < count {
-        let s = read_set(rec, at + 2 * i);
-        write_set(rec, at + 2 * i, sets::remove(s, board));
-        i += 1;
-    }
-    let rest = read_set(rec, at);
-    write_set(rec, at + 2 * (board as usize), rest);
-}
-
-// Whether a board's barring set lies within the waiting set, and is empty where the board waits.
-fn bars(waiting: u16, board: u8, barring: u16) -> bool
-    requires { ⌜ board < 16 ⌝ }
-    ensures { λ r. ⌜ r ≡ (subset barring waiting && implies (member waiting board) (eqb barring empty)) ⌝ }
-{
-    if sets::member(waiting, board) {
-        return barring == 0;
-    }
-    sets::subset(barring, waiting)
-}
-
-// Whether the claims are those of a sound record.
-fn sets_sound(rec: &[u8], at: usize, boards: u8) -> bool
-    requires { ⌜ (at + 32 ≤ length (now rec)) × (boards < 16) ⌝ }
-    ensures { λ r. ⌜ r ≡ soundClaims boards (claimsAt boards at (now (rec .entry))) ⌝ }
-{
-    let w = waiting_at(rec, at);
-    if !sets::boards_only(boards, w) {
-        return false;
-    }
-    let mut board = 0;
-    while board < boards {
-        board += 1;
-        let s = read_set(rec, at + 2 * (board as usize));
-        if !bars(w, board, s) {
-            return false;
-        }
-    }
-    true
-}
-
-// Whether the sets are sound. Most blocks are unclaimed, with all sets empty.
-pub fn sound_at(rec: &[u8], at: usize, boards: u8) -> bool
-    requires { ⌜ (at + 32 ≤ length (now rec)) × (boards < 16) ⌝ }
-    ensures { λ r. ⌜ r ≡ soundClaims boards (claimsAt boards at (now (rec .entry))) ⌝ }
-{
-    if clear(rec, at, 2 * (boards as usize + 1)) {
-        return true;
-    }
-    sets_sound(rec, at, boards)
 }

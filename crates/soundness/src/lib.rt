@@ -3,49 +3,23 @@ ghost use mathlib.Core.Path.{_≡_};
 ghost use mathlib.Core.Bool.{true};
 ghost use Prim.Native.Nat.{ℕ, _+_, _*_, _≤_, _<_};
 ghost use lib.ListN.{length, getD, replicate};
-ghost use lib.Dec.{eqb};
-ghost use Rattle.base.specs.Folds.{below, every};
-ghost use Rattle.layout.specs.Layout.{part};
+ghost use Rattle.base.specs.Folds.{below};
 ghost use Rattle.protocol.specs.Sound.{sizes};
-ghost use Rattle.record.specs.Record.{words, recordLength};
+ghost use Rattle.record.specs.Record.{recordLength};
 ghost use Rattle.record.specs.Sound.{soundBytes};
-ghost use Rattle.soundness.specs.Deciding.{marksFine, cellFine, endsFine, messageFine, weightAt, flying, resting, blockFine};
+ghost use Rattle.figures.specs.Fine.{cellFine, messageFine};
+ghost use Rattle.soundness.specs.Deciding.{flying, resting, blockFine};
 use base::both;
-use base::clear;
 use base::wide;
+use figures::cell_fine;
+use figures::message_fine;
+use figures::weight;
 use record::sizes;
 
 // Whether some cells are fine, and their weight.
 pub struct Tally {
     pub fine: bool,
     pub weight: u32,
-}
-
-// The weight of the plain count and the owner at a place.
-fn weight(rec: &[u8], at: usize) -> u32
-    requires { ⌜ at + 2 ≤ length (now rec) ⌝ }
-    ensures { λ r. ⌜ (r ≡ weightAt (now (rec .entry)) at) × (r ≤ 16712190) ⌝ }
-{
-    wide(rec[at]) + wide(rec[at + 1]) * 65537
-}
-
-// Whether the owner's mark and the valid mark (of a message: data) are 0 or 1, and the owner stands only beside the other.
-fn marks_fine(owner: u8, valid: u8) -> bool
-    ensures { λ r. ⌜ r ≡ marksFine owner valid ⌝ }
-{
-    both(owner <= valid, valid < 2)
-}
-
-// Whether the cell at a place is formed and sound.
-fn cell_fine(rec: &[u8], at: usize) -> bool
-    requires { ⌜ at + 35 ≤ length (now rec) ⌝ }
-    ensures { λ r. ⌜ r ≡ cellFine (now (rec .entry)) at ⌝ }
-{
-    let plain = rec[at];
-    let owner = rec[at + 1];
-    let valid = rec[at + 2];
-    let held = wide(plain) + wide(owner);
-    both(marks_fine(owner, valid), wide(valid) <= held)
 }
 
 // The first cells of a block.
@@ -69,45 +43,6 @@ fn cells(rec: &[u8], at: usize, count: usize) -> Tally
         fine,
         weight: plain + owners * 65537,
     }
-}
-
-// Whether the eight words from a place on are all 0.
-fn words_clear(rec: &[u8], at: usize) -> bool
-    requires { ⌜ at + 32 ≤ length (now rec) ⌝ }
-    ensures { λ r. ⌜ r ≡ every (eqb 0) (words .read (part at 32 (now (rec .entry)))) ⌝ }
-{
-    clear(rec, at, 32)
-}
-
-// Whether a message's ends are known and differ, and its block is known.
-fn ends_fine(rec: &[u8], at: usize, boards: u8, blocks: u8) -> bool
-    requires { ⌜ at + 3 ≤ length (now rec) ⌝ }
-    ensures { λ r. ⌜ r ≡ endsFine boards blocks (now (rec .entry)) at ⌝ }
-{
-    let sender = rec[at];
-    let target = rec[at + 1];
-    let block = rec[at + 2];
-    both(
-        both(sender <= boards, target <= boards),
-        both(sender != target, block < blocks),
-    )
-}
-
-// Whether the message at a place is formed and sound.
-fn message_fine(rec: &[u8], at: usize, boards: u8, blocks: u8) -> bool
-    requires { ⌜ at + 38 ≤ length (now rec) ⌝ }
-    ensures { λ r. ⌜ r ≡ messageFine boards blocks (now (rec .entry)) at ⌝ }
-{
-    let ends = ends_fine(rec, at, boards, blocks);
-    let plain = rec[at + 3];
-    let owner = rec[at + 4];
-    let data = rec[at + 5];
-    let carried = wide(plain) + wide(owner);
-    let fine = both(both(marks_fine(owner, data), 0 < carried), ends);
-    if data == 1 {
-        return fine;
-    }
-    both(fine, words_clear(rec, at + 6))
 }
 
 // Whether the messages are fine; where they are, each block's weight in them is added to its sum.
@@ -136,7 +71,7 @@ fn block_fine(rec: &[u8], at: usize, boards: u8, tokens: u8, mesh: u32) -> bool
 {
     let t = cells(rec, at, wide(boards) as usize + 1);
     let sum = t.weight + mesh;
-    let claims = claims::sound_at(rec, at + 560, boards);
+    let claims = claims_sound::sound_at(rec, at + 560, boards);
     both(both(t.fine, sum == wide(tokens) + 65536), claims)
 }
 

@@ -6,7 +6,8 @@ use mathlib.Core.Path.{_≡_, sym, ap, _∙_}
 use mathlib.Core.Bool.{_&&_}
 use Rattle.base.specs.Folds.{below}
 use Rattle.base.proofs.Folds.{below-none, below-next}
-use Rattle.soundness.specs.Deciding.{cellFine, resting}
+use Rattle.figures.specs.Fine.{cellFine}
+use Rattle.soundness.specs.Deciding.{resting}
 use Rattle.soundness.proofs.Deciding.{resting-none, resting-next, resting-most}
 use Rattle.soundness.proofs.cells.Statement.{statement}
 use Rattle.soundness.proofs.cells.Tie as tie

@@ -6,7 +6,8 @@ use mathlib.Core.Bool.{true}
 use lib.ListN.{getD}
 use borrow.Author.Tests.{not-true, not-false}
 use Rattle.base.specs.Folds.{below}
-use Rattle.soundness.specs.Deciding.{messageFine, flying, blockFine}
+use Rattle.figures.specs.Fine.{messageFine}
+use Rattle.soundness.specs.Deciding.{flying, blockFine}
 use Rattle.soundness.proofs.Deciding.{headerFine, meshFine, few-boards, few-blocks, few-messages, flying-most, unsound-room, unsound-header, unsound-mesh, sound-blocks}
 use borrow.Author.Needs.{needs}
 use Rattle.soundness.proofs.sound.Statement.{statement}

@@ -1,9 +1,9 @@
--- `claims::bars` meets its contract: the empty set lies within every set.
-use Rattle.claims.proofs.ClaimBytes.{bars-waiting, bars-idle}
+-- `claims_sound::bars` meets its contract: the empty set lies within every set.
+use Rattle.claims_sound.proofs.Deciding.{bars-waiting, bars-idle}
 use mathlib.Core.Path.{sym, _∙_}
 use borrow.Author.Needs.{needs}
-use Rattle.claims.proofs.bars.Statement.{statement}
-use Rattle.claims.proofs.bars.Tie as tie
+use Rattle.claims_sound.proofs.bars.Statement.{statement}
+use Rattle.claims_sound.proofs.bars.Tie as tie
 
 member-requires : tie.Need-member-requires
 member-requires c κs = search needs

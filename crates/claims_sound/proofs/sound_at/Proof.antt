@@ -1,9 +1,9 @@
--- `claims::sound_at` meets its contract: where all bytes of the sets are 0, no board waits or is barred.
+-- `claims_sound::sound_at` meets its contract: where all bytes of the sets are 0, no board waits or is barred.
 use mathlib.Core.Path.{sym, _∙_}
-use Rattle.claims.proofs.ClaimBytes.{clear-sound}
+use Rattle.claims_sound.proofs.Deciding.{clear-sound}
 use borrow.Author.Needs.{needs}
-use Rattle.claims.proofs.sound_at.Statement.{statement}
-use Rattle.claims.proofs.sound_at.Tie as tie
+use Rattle.claims_sound.proofs.sound_at.Statement.{statement}
+use Rattle.claims_sound.proofs.sound_at.Tie as tie
 
 add-clear : tie.Need-add-clear
 add-clear c = search needs

@@ -1,11 +1,11 @@
--- `claims::lower_at` meets its contract: after i turns the board has left the first i sets.
-use Rattle.claims.proofs.ClaimBytes.{Lowering, lower-none, lower-more, lower-is}
+-- `claims_change::lower_at` meets its contract: after i turns the board has left the first i sets.
+use Rattle.claims_change.proofs.Stored.{Lowering, lower-none, lower-more, lower-is}
 use mathlib.Core.Path.{_≡_, subst}
 use Prim.Native.Nat.{ℕ, _+_, _-_, _≤_}
 use native.Mathlib.Omega.{arith}
 use borrow.Author.Needs.{needs}
-use Rattle.claims.proofs.lower_at.Statement.{statement}
-use Rattle.claims.proofs.lower_at.Tie as tie
+use Rattle.claims_change.proofs.lower_at.Statement.{statement}
+use Rattle.claims_change.proofs.lower_at.Tie as tie
 
 abbrev Inv-loop : tie.InvT-loop
 Inv-loop rec₀ at boards board count i₀ rec i = (i ≤ boards + 1) × Lowering boards at rec₀ board i rec

@@ -1,9 +1,9 @@
--- `soundness::words_clear` meets its contract: words are 0 where their bytes are.
+-- `figures::words_clear` meets its contract: words are 0 where their bytes are.
 use mathlib.Core.Path.{sym, _∙_}
 use borrow.Author.Needs.{needs}
 use Rattle.record.proofs.Bytes.{words-zero}
-use Rattle.soundness.proofs.words_clear.Statement.{statement}
-use Rattle.soundness.proofs.words_clear.Tie as tie
+use Rattle.figures.proofs.words_clear.Statement.{statement}
+use Rattle.figures.proofs.words_clear.Tie as tie
 
 clear-requires : tie.Need-clear-requires
 clear-requires c κs = search needs

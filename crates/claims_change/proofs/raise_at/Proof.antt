@@ -1,8 +1,8 @@
--- `claims::raise_at` meets its contract: the waiting set alone is written.
-use Rattle.claims.proofs.ClaimBytes.{raise-is}
+-- `claims_change::raise_at` meets its contract: the waiting set alone is written.
+use Rattle.claims_change.proofs.Stored.{raise-is}
 use borrow.Author.Needs.{needs}
-use Rattle.claims.proofs.raise_at.Statement.{statement}
-use Rattle.claims.proofs.raise_at.Tie as tie
+use Rattle.claims_change.proofs.raise_at.Statement.{statement}
+use Rattle.claims_change.proofs.raise_at.Tie as tie
 
 read-set-requires : tie.Need-read-set-requires
 read-set-requires c κs = search needs

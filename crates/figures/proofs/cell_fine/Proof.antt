@@ -1,9 +1,9 @@
--- `soundness::cell_fine` meets its contract: its tests are those of the cell's bytes.
+-- `figures::cell_fine` meets its contract: its tests are those of the cell's bytes.
 use mathlib.Core.Path.{sym}
-use Rattle.soundness.proofs.Deciding.{cell-is}
+use Rattle.figures.proofs.Fine.{cell-is}
 use borrow.Author.Needs.{needs}
-use Rattle.soundness.proofs.cell_fine.Statement.{statement}
-use Rattle.soundness.proofs.cell_fine.Tie as tie
+use Rattle.figures.proofs.cell_fine.Statement.{statement}
+use Rattle.figures.proofs.cell_fine.Tie as tie
 
 shared-slice-read-plain : tie.Need-shared-slice-read-plain
 shared-slice-read-plain c = search needs

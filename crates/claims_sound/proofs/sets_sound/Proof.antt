@@ -1,6 +1,7 @@
--- `claims::sets_sound` meets its contract: after i turns the barring sets of the first i boards were sound.
-use Rattle.claims.proofs.ClaimBytes.{length-claims, barring-is, firstSound, first-none, first-more, first-fails, sound-boards, sound-all}
+-- `claims_sound::sets_sound` meets its contract: after i turns the barring sets of the first i boards were sound.
+use Rattle.claims.proofs.ClaimBytes.{length-claims, barring-is}
+use Rattle.claims_sound.proofs.Deciding.{firstSound, first-none, first-more, first-fails, sound-boards, sound-all}
 use Rattle.claims.specs.ClaimBytes.{claimsAt}
 use Rattle.arbiter.specs.Boards.{boardsOnly}
 use mathlib.Core.Path.{_≡_, refl, sym, ap, _∙_}
 use mathlib.Core.Bool.{true}
@@ -8,8 +9,8 @@ use Prim.Native.Nat.{_-_, _≤_}
 use native.Mathlib.Omega.{arith}
 use borrow.Author.Tests.{not-true, not-false}
 use borrow.Author.Needs.{needs}
-use Rattle.claims.proofs.sets_sound.Statement.{statement}
-use Rattle.claims.proofs.sets_sound.Tie as tie
+use Rattle.claims_sound.proofs.sets_sound.Statement.{statement}
+use Rattle.claims_sound.proofs.sets_sound.Tie as tie
 
 abbrev Inv-loop : tie.InvT-loop
 Inv-loop rec at boards w board₀ board = (board ≤ boards) × (firstSound boards (claimsAt boards at rec) board ≡ true)

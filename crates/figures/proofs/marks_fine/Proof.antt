@@ -1,13 +1,13 @@
--- `soundness::marks_fine` meets its contract: the marks by their order.
+-- `figures::marks_fine` meets its contract: the marks by their order.
 use Prim.Native.Nat.{_≤_, _<_}
 use mathlib.Core.Path.{_≡_, sym, _∙_}
 use mathlib.Core.Bool.{true}
 use borrow.Author.Tests.{leb-true, le-leb, ltb-true, lt-ltb}
 use Rattle.base.proofs.Tests.{and-l, and-r, and-of}
-use Rattle.soundness.proofs.Deciding.{marks-is}
+use Rattle.figures.proofs.Fine.{marks-is}
 use borrow.Author.Needs.{needs}
-use Rattle.soundness.proofs.marks_fine.Statement.{statement}
-use Rattle.soundness.proofs.marks_fine.Tie as tie
+use Rattle.figures.proofs.marks_fine.Statement.{statement}
+use Rattle.figures.proofs.marks_fine.Tie as tie
 
 both-requires : tie.Need-both-requires
 both-requires c κs = search needs

@@ -1,0 +1,34 @@
+// A raise and a lower, made in the bytes of the claims on a block.
+ghost use mathlib.Core.Path.{_≡_};
+ghost use Prim.Native.Nat.{ℕ, _+_, _≤_, _<_};
+ghost use lib.ListN.{length};
+ghost use Rattle.arbiter.specs.Claims.{raised, lowered};
+ghost use Rattle.claims.specs.ClaimBytes.{claimsAt, putClaims};
+use arbiter::sets;
+use claims::read_set;
+use claims::write_set;
+
+// The board joins the waiting set.
+pub fn raise_at(rec: &mut [u8], at: usize, board: u8)
+    requires { ⌜ (at + 32 ≤ length (now rec)) × (board < 16) ⌝ }
+    ensures { λ r. ⌜ ((n : ℕ) → n < 16 → now (rec .exit) ≡ putClaims n at (raised (claimsAt n at (now (rec .entry))) board) (now (rec .entry))) ⌝ }
+{
+    let w = read_set(rec, at);
+    write_set(rec, at, sets::insert(w, board));
+}
+
+// The board leaves the waiting set and every barring set; its own barring set becomes the waiting set that remains.
+pub fn lower_at(rec: &mut [u8], at: usize, boards: u8, board: u8)
+    requires { ⌜ (at + 32 ≤ length (now rec)) × (1 ≤ board) × (board ≤ boards) × (boards < 16) ⌝ }
+    ensures { λ r. ⌜ now (rec .exit) ≡ putClaims boards at (lowered (claimsAt boards at (now (rec .entry))) board) (now (rec .entry)) ⌝ }
+{
+    let count = boards as usize + 1;
+    let mut i = 0;
+    while i < count {
+        let s = read_set(rec, at + 2 * i);
+        write_set(rec, at + 2 * i, sets::remove(s, board));
+        i += 1;
+    }
+    let rest = read_set(rec, at);
+    write_set(rec, at + 2 * (board as usize), rest);
+}

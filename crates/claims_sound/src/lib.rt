@@ -1,0 +1,56 @@
+// Whether the claims on a block, as lent bytes, are those of a sound record.
+ghost use mathlib.Core.Path.{_≡_};
+ghost use mathlib.Core.Bool.{_&&_};
+ghost use Prim.Native.Nat.{_+_, _≤_, _<_};
+ghost use lib.Dec.{eqb};
+ghost use lib.ListN.{length};
+ghost use Rattle.base.specs.Folds.{implies};
+ghost use Rattle.arbiter.specs.Boards.{member, empty, subset};
+ghost use Rattle.arbiter.specs.Claims.{soundClaims};
+ghost use Rattle.claims.specs.ClaimBytes.{claimsAt};
+use arbiter::sets;
+use base::clear;
+use claims::read_set;
+use claims::waiting_at;
+
+// Whether a board's barring set lies within the waiting set, and is empty where the board waits.
+fn bars(waiting: u16, board: u8, barring: u16) -> bool
+    requires { ⌜ board < 16 ⌝ }
+    ensures { λ r. ⌜ r ≡ (subset barring waiting && implies (member waiting board) (eqb barring empty)) ⌝ }
+{
+    if sets::member(waiting, board) {
+        return barring == 0;
+    }
+    sets::subset(barring, waiting)
+}
+
+// Whether the claims are those of a sound record.
+fn sets_sound(rec: &[u8], at: usize, boards: u8) -> bool
+    requires { ⌜ (at + 32 ≤ length (now rec)) × (boards < 16) ⌝ }
+    ensures { λ r. ⌜ r ≡ soundClaims boards (claimsAt boards at (now (rec .entry))) ⌝ }
+{
+    let w = waiting_at(rec, at);
+    if !sets::boards_only(boards, w) {
+        return false;
+    }
+    let mut board = 0;
+    while board < boards {
+        board += 1;
+        let s = read_set(rec, at + 2 * (board as usize));
+        if !bars(w, board, s) {
+            return false;
+        }
+    }
+    true
+}
+
+// Whether the sets are sound. Most blocks are unclaimed, with all sets empty.
+pub fn sound_at(rec: &[u8], at: usize, boards: u8) -> bool
+    requires { ⌜ (at + 32 ≤ length (now rec)) × (boards < 16) ⌝ }
+    ensures { λ r. ⌜ r ≡ soundClaims boards (claimsAt boards at (now (rec .entry))) ⌝ }
+{
+    if clear(rec, at, 2 * (boards as usize + 1)) {
+        return true;
+    }
+    sets_sound(rec, at, boards)
+}
