@@ -1,5 +1,6 @@
 -- Laws of `place`: bytes placed into a buffer, one run after the other, and through a part that was lent.
 use native.Mathlib.Nat.{add-zero, zero-add, add-assoc}
+use native.Mathlib.Numerals.{add-one}
 use mathlib.Core.Path.{_≡_, sym, ap, _∙_}
 use Prim.Native.Nat.{ℕ, _+_, _-_, _≤_, _<_}
 use native.Mathlib.Omega.{arith}
@@ -31,10 +32,10 @@ place-more at a b out h =
     rw (← append-assoc (take at out) a rest, take-at (take at out ++ a) rest (at + length a) front, after)
     (simp (append-assoc, length-append, add-assoc))
 
--- a byte stored at the front
-pub place-first : (x : ℕ) (out : List ℕ) → 0 < length out → set out 0 x ≡ place 0 (x ∷ []) out
+-- a byte stored
+pub place-byte : (at x : ℕ) (out : List ℕ) → at < length out → set out at x ≡ place at (x ∷ []) out
 unfolding place
-place-first x out h = set-split out 0 x h
+place-byte at x out h = rw (add-one at) (set-split out at x h)
 
 -- a part that was lent and written over
 pub place-part : (at k : ℕ) (bs out : List ℕ) → length bs ≡ k → putMid at k out bs ≡ place at bs out
@@ -47,3 +48,21 @@ unfolding place
 place-rest at bs out h =
     let ended : drop (length out - at) (drop at out) ≡ [] = drop-of-length-le (drop at out) {i = length out - at} (omega (arith, length-drop at out)) in
     rw (rest-all out at, ended, zero-add, append-nil, drop-drop (length bs) at out)
+
+-- bytes are placed from `at` on: the place after them, and the buffer
+abbrev pub Placed : ℕ → List ℕ → List ℕ → ℕ → List ℕ → Type 0
+Placed at bs out next out′ = (next ≡ at + length bs) × (out′ ≡ place at bs out)
+
+pub placed-none : (at : ℕ) (out : List ℕ) → Placed at [] out at out
+placed-none at out = (sym (add-zero at), sym (place-none at out))
+
+-- one run after the other
+pub placed-more : (at m next : ℕ) (a b out out′ out″ : List ℕ) → at ≤ length out → Placed at a out m out′ → Placed m b out′ next out″ → Placed at (a ++ b) out next out″
+placed-more at m next a b out out′ out″ h (p, q) (p′, q′) = (
+  omega (arith, length-append a b),
+  q′ ∙ (λ i. place (p i) b (q i)) ∙ place-more at a b out h,
+)
+
+-- the same bytes
+pub placed-same : (at next : ℕ) (a b out out′ : List ℕ) → a ≡ b → Placed at a out next out′ → Placed at b out next out′
+placed-same at next a b out out′ e (p, q) = (p ∙ ap (λ (l : List ℕ). at + length l) e, q ∙ ap (λ (l : List ℕ). place at l out) e)

@@ -11,8 +11,8 @@ use Rattle.layout.specs.Number.{Bytes}
 use Rattle.refusals.specs.declared.Refusal.the-variants.{Unsound}
 use Rattle.kinds.specs.declared.Step.{Step}
 use Rattle.kinds.specs.declared.Step.the-variants.{Load, Store, Send, Deliver, Raise, Lower, Forward}
-use Rattle.reader.specs.declared.Reading.{Reading}
-use Rattle.reader.specs.declared.Reading.the-variants.{Step as Read, Refused as NoStep}
+use Rattle.kinds.specs.declared.Reading.{Reading}
+use Rattle.kinds.specs.declared.Reading.the-variants.{Step as Read, Refused as NoStep}
 use Rattle.kinds.specs.Kinds.{kindOf, places, fit, fits}
 use Rattle.reader.specs.Reader.{readRecord}
 use Rattle.reader.proofs.Theorems.{read-fits}

@@ -1,8 +1,8 @@
 -- Document 01, "The flat memory": a list of byte strings given as steps, one after the other, and what the flat memory is handed of it.
 use mathlib.Core.List.{List, [], _∷_, _++_}
 use Prim.Native.Nat.{ℕ}
-use Rattle.reader.specs.declared.Reading.{Reading}
-use Rattle.reader.specs.declared.Reading.the-variants.{Step, Refused as NoStep}
+use Rattle.kinds.specs.declared.Reading.{Reading}
+use Rattle.kinds.specs.declared.Reading.the-variants.{Step, Refused as NoStep}
 use Rattle.reader.specs.Reader.{readRecord}
 use Rattle.protocol.specs.declared.Reply.{Reply}
 use Rattle.protocol.specs.declared.Reply.the-variants.{Accepted, Refused}

@@ -3,8 +3,8 @@ ghost use mathlib.Core.Path.{_≡_};
 ghost use Rattle.judging.specs.Step.{stepTold, stepAfter};
 ghost use Rattle.engine.specs.Run.{Ran};
 use base::both;
+use kinds::Reading;
 use protocol::Reply;
-use reader::Reading;
 
 pub mod exports;
 

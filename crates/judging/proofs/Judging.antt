@@ -7,8 +7,8 @@ use borrow.Author.Tests.{not-true, not-false}
 use Rattle.layout.specs.Number.{Bytes}
 use Rattle.refusals.specs.declared.Refusal.the-variants.{Unsound}
 use Rattle.kinds.specs.declared.Step.{Step}
-use Rattle.reader.specs.declared.Reading.{Reading}
-use Rattle.reader.specs.declared.Reading.the-variants.{Step as Read}
+use Rattle.kinds.specs.declared.Reading.{Reading}
+use Rattle.kinds.specs.declared.Reading.the-variants.{Step as Read}
 use Rattle.reader.specs.Reader.{readRecord}
 use Rattle.protocol.specs.declared.Reply.{Reply}
 use Rattle.protocol.specs.declared.Reply.the-variants.{Refused}

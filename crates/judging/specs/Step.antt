@@ -3,8 +3,8 @@ use mathlib.Core.Bool.{cond}
 use mathlib.Core.List.{List}
 use Prim.Native.Nat.{ℕ}
 use Rattle.refusals.specs.declared.Refusal.the-variants.{Unsound}
-use Rattle.reader.specs.declared.Reading.{Reading}
-use Rattle.reader.specs.declared.Reading.the-variants.{Step, Refused}
+use Rattle.kinds.specs.declared.Reading.{Reading}
+use Rattle.kinds.specs.declared.Reading.the-variants.{Step, Refused}
 use Rattle.reader.specs.Reader.{readRecord}
 use Rattle.protocol.specs.declared.Reply.{Reply}
 use Rattle.protocol.specs.Rules.{Outcome, refused, rules}

@@ -4,9 +4,9 @@ ghost use Rattle.record.specs.Sound.{soundBytes};
 ghost use Rattle.protocol.specs.Memory.{reply};
 ghost use Rattle.steps.specs.Apply.{recordAfter};
 ghost use Rattle.judging.specs.Step.{outcome, stepTold, stepAfter};
+use kinds::Reading;
 use kinds::Step;
 use protocol::Reply;
-use reader::Reading;
 use refusals::Refusal;
 
 // A step on a record whose soundness is known.

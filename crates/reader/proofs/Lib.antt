@@ -1,6 +1,1 @@
-pub mod Fields
-pub mod Trips
-pub mod Bodies
-pub mod Seeing
-pub mod ByKind
 pub mod Theorems

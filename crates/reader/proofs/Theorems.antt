@@ -13,14 +13,15 @@ use Rattle.layout.proofs.Parts.{bytes-drop}
 use Rattle.refusals.specs.declared.Refusal.{Refusal}
 use Rattle.refusals.specs.declared.Refusal.the-variants.{Torn}
 use Rattle.kinds.specs.declared.Step.{Step}
-use Rattle.reader.specs.declared.Reading.the-variants.{Step as Read, Refused}
+use Rattle.kinds.specs.declared.Reading.the-variants.{Step as Read, Refused}
 use Rattle.kinds.specs.Kinds.{kindOf, places, kindIn, fits}
 use Rattle.kinds.specs.Record.{recordBytes, stepBytes}
-use Rattle.reader.specs.Reader.{fill, placesIn, readBody, framed, readRecord}
+use Rattle.bodies.specs.Body.{fill, placesIn, readBody}
+use Rattle.reader.specs.Reader.{framed, readRecord}
 use Rattle.kinds.proofs.Table.{fields-sound, of-fit}
 use Rattle.kinds.proofs.Sizes.{body, body-length}
-use Rattle.reader.proofs.Trips.{body-read, body-written}
-use Rattle.reader.proofs.Bodies.{found, step-found, step-body, gathered-fits}
+use Rattle.bodies.proofs.Trips.{body-read, body-written}
+use Rattle.bodies.proofs.Bodies.{found, step-found, step-body, gathered-fits}
 
 pub refused-read : {r : Refusal} {s : Step} → Refused r ≡ Read s → ⊥
 refused-read e = let z : _≡_ {A = ℕ} 0 1 = cc in omega arith

@@ -10,7 +10,7 @@ pub fn word_at(s: &[u8], at: usize) -> u32
     requires { ⌜ at + 4 ≤ length (now s) ⌝ }
     ensures { λ r. ⌜ r ≡ big 4 .read (part at 4 (now (s .entry))) ⌝ }
 {
-    kinds::number_at(s, at)
+    numbers::number_at(s, at)
 }
 
 // Writes the word at a place.

@@ -1,94 +1,14 @@
 // The text of a run, as the program rackrun writes it.
 ghost use mathlib.Core.Path.{_≡_};
-ghost use Prim.Native.Nat.{_+_, _*_, _/_, _≤_, _<_, min};
-ghost use mathlib.Core.List.{[], _∷_};
+ghost use Prim.Native.Nat.{_+_, _*_, _/_, _≤_, min};
 ghost use lib.ListN.{length};
 ghost use Rattle.base.specs.Placing.{place};
 ghost use Rattle.cuts.specs.Cut.{cuts};
 ghost use Rattle.engine.specs.Lists.{replies, after};
-ghost use Rattle.report.specs.Text.{digit, decimal, hexadecimal, said, line, lines, text, held};
+ghost use Rattle.report.specs.Text.{lines, text, held};
 use base::wide;
-use protocol::Answer;
 use protocol::Reply;
 use refusals::Refusal;
-
-// A digit in ASCII.
-fn digit(n: u64) -> u8
-    requires { ⌜ n < 16 ⌝ }
-    ensures { λ r. ⌜ r ≡ digit n ⌝ }
-{
-    if n < 10 { 48 + n as u8 } else { 87 + n as u8 }
-}
-
-// Places a byte, and gives the place after it, as every function here does.
-fn put(out: &mut [u8], at: usize, byte: u8) -> usize
-    requires { ⌜ at < length (now out) ⌝ }
-    ensures { λ r. ⌜ (r ≡ at + 1) × (now (out .exit) ≡ place at (byte ∷ []) (now (out .entry))) ⌝ }
-{
-    out[at] = byte;
-    at + 1
-}
-
-// Places a number in decimal, of at most `more` + 1 digits.
-fn put_decimal(out: &mut [u8], at: usize, more: usize, n: u64) -> usize
-    requires { ⌜ at + more < length (now out) ⌝ }
-    ensures { λ r. ⌜ (r ≡ at + length (decimal more n)) × (now (out .exit) ≡ place at (decimal more n) (now (out .entry))) ⌝ }
-{
-    if more == 0 {
-        return put(out, at, digit(n % 10));
-    }
-    if n < 10 {
-        return put(out, at, digit(n));
-    }
-    let last = put_decimal(out, at, more - 1, n / 10);
-    put(out, last, digit(n % 10))
-}
-
-// Places the lowest digits of a number in hexadecimal.
-fn put_hexadecimal(out: &mut [u8], at: usize, count: usize, n: u64) -> usize
-    requires { ⌜ at + count ≤ length (now out) ⌝ }
-    ensures { λ r. ⌜ (r ≡ at + length (hexadecimal count n)) × (now (out .exit) ≡ place at (hexadecimal count n) (now (out .entry))) ⌝ }
-{
-    if count == 0 {
-        return at;
-    }
-    let last = put_hexadecimal(out, at, count - 1, n / 16);
-    put(out, last, digit(n % 16))
-}
-
-// Places what is said of a reply.
-fn put_said(out: &mut [u8], at: usize, reply: Reply) -> usize
-    requires { ⌜ at + 9 ≤ length (now out) ⌝ }
-    ensures { λ r. ⌜ (r ≡ at + length (said reply)) × (now (out .exit) ≡ place at (said reply) (now (out .entry))) ⌝ }
-{
-    match reply {
-        Reply::Accepted(answer) => match answer {
-            Answer::Done => {
-                let next = put(out, at, b'o');
-                put(out, next, b'k')
-            }
-            Answer::Word(word) => {
-                let next = put(out, at, b'v');
-                put_hexadecimal(out, next, 8, word as u64)
-            }
-        },
-        Reply::Refused(refusal) => {
-            let next = put(out, at, b'r');
-            put_decimal(out, next, 1, refusals::number(refusal))
-        }
-    }
-}
-
-// Places a line.
-fn put_line(out: &mut [u8], at: usize, index: u64, reply: Reply) -> usize
-    requires { ⌜ at + 16 ≤ length (now out) ⌝ }
-    ensures { λ r. ⌜ (r ≡ at + length (line index reply)) × (now (out .exit) ≡ place at (line index reply) (now (out .entry))) ⌝ }
-{
-    let after_index = put_decimal(out, at, 4, index);
-    let start = put(out, after_index, b' ');
-    let end = put_said(out, start, reply);
-    put(out, end, b'\n')
-}
 
 // Gives the records of a list to the record, and places the steps' lines.
 fn put_steps(rec: &mut [u8], list: &[u8], out: &mut [u8], at: usize) -> usize
@@ -103,7 +23,7 @@ fn put_steps(rec: &mut [u8], list: &[u8], out: &mut [u8], at: usize) -> usize
         let end = cuts::cut_end(list, place);
         let reply = engine::step(rec, &list[place..end]);
         made += 1;
-        to = put_line(out, to, made, reply);
+        to = lines::put_line(out, to, made, reply);
         place = end;
     }
     to
@@ -116,10 +36,10 @@ fn put_text(rec: &mut [u8], input: &[u8], out: &mut [u8]) -> usize
     ensures buffer { λ r. ⌜ now (rec .exit) ≡ held (now (rec .entry)) (now (input .entry)) ⌝ }
 {
     if input.len() < 3 {
-        return put_line(out, 0, 0, Reply::Refused(Refusal::Torn));
+        return lines::put_line(out, 0, 0, Reply::Refused(Refusal::Torn));
     }
     let reply = opening::open(rec, wide(input[0]), wide(input[1]), wide(input[2]));
-    let at = put_line(out, 0, 0, reply);
+    let at = lines::put_line(out, 0, 0, reply);
     match reply {
         Reply::Accepted(_) => put_steps(rec, &input[3..], out, at),
         Reply::Refused(_) => at,

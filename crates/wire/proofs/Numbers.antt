@@ -13,7 +13,7 @@ use Rattle.base.proofs.Folds.{below-at, below-of}
 use Rattle.refusals.specs.declared.Refusal.the-variants.{Torn}
 use Rattle.kinds.specs.declared.Step.{Step}
 use Rattle.kinds.specs.declared.Step.the-variants.{Load, Store, Send, Deliver, Raise, Lower, Forward}
-use Rattle.reader.specs.declared.Reading.the-variants.{Step as Read, Refused}
+use Rattle.kinds.specs.declared.Reading.the-variants.{Step as Read, Refused}
 use Rattle.kinds.specs.Kinds.{kindOf, places, kindIn, fit, fits}
 use Rattle.kinds.specs.Record.{stepBytes}
 use Rattle.reader.specs.Reader.{readRecord}

@@ -7,8 +7,8 @@ use lib.Dec.{eqb, leb}
 use Rattle.base.specs.Folds.{below}
 use Rattle.refusals.specs.declared.Refusal.the-variants.{Torn, ShortBuffer}
 use Rattle.refusals.specs.Packing.{done, refused}
-use Rattle.reader.specs.declared.Reading.{Reading}
-use Rattle.reader.specs.declared.Reading.the-variants.{Step, Refused}
+use Rattle.kinds.specs.declared.Reading.{Reading}
+use Rattle.kinds.specs.declared.Reading.the-variants.{Step, Refused}
 use Rattle.writer.specs.declared.Written.{Written}
 use Rattle.writer.specs.declared.Written.the-variants.{Count, Refused as NotWritten}
 use Rattle.kinds.specs.Kinds.{places, kindIn, kindOf, fit}

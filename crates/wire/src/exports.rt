@@ -6,8 +6,8 @@ ghost use Rattle.kinds.specs.Kinds.{kindOf, fit};
 ghost use Rattle.reader.specs.Reader.{readRecord};
 ghost use Rattle.base.specs.Placing.{place};
 ghost use Rattle.wire.specs.Entries.{same, told, readAnswer, readAfter, writeAnswer, writeAfter};
+use kinds::Reading;
 use kinds::Step;
-use reader::Reading;
 use refusals::Refusal;
 use writer::Written;
 
@@ -48,12 +48,12 @@ fn wide(x: u32) -> u64
 fn places_fit(places: [u32; 12]) -> bool
     ensures { λ r. ⌜ r ≡ fit (kindOf (getD places 0 0) .fields) places ⌝ }
 {
-    let fields = kinds::tags_of(places[0]);
+    let fields = table::tags_of(places[0]);
     let count = fields.count;
     let tags = fields.tags;
     let mut i = 0;
     while i < count {
-        let field = kinds::field_of(tags[i]);
+        let field = table::field_of(tags[i]);
         let tag = field.tag as usize;
         if wide(places[tag]) >= field.limit {
             return false;
@@ -75,8 +75,8 @@ fn told(numbers: &[u32]) -> Reading
     if !places_fit(places) {
         return Reading::Refused(Refusal::Torn);
     }
-    let step = kinds::step_of(places);
-    if !same_places(kinds::places_of(step), places) {
+    let step = table::step_of(places);
+    if !same_places(table::places_of(step), places) {
         return Reading::Refused(Refusal::Torn);
     }
     Reading::Step(step)
@@ -93,7 +93,7 @@ pub extern "C" fn hyl_wire_read(bytes: &[u8], out: &mut [u32]) -> u64
             if out.len() < 12 {
                 return refusals::pack_refused(Refusal::ShortBuffer);
             }
-            let places = kinds::places_of(step);
+            let places = table::places_of(step);
             copy_twelve(&places, out);
             refusals::pack_done(0)
         }

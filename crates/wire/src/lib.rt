@@ -1,9 +1,9 @@
 // Step records, written and read again, and read and written again; exports.rt has the reader and the writer for C.
 ghost use mathlib.Core.Path.{_≡_};
-ghost use Rattle.reader.specs.declared.Reading.{Reading};
+ghost use Rattle.kinds.specs.declared.Reading.{Reading};
 ghost use Rattle.wire.specs.Trips.{rewritten, replaced};
+use kinds::Reading;
 use kinds::Step;
-use reader::Reading;
 use writer::Written;
 
 pub mod exports;

@@ -10,7 +10,7 @@ use borrow.Rule.Slice.PartMut.{putMid, put-same, mid-len}
 use borrow.Author.Tests.{le-leb, lt-leb}
 use Rattle.base.specs.Placing.{place, roomFor}
 use Rattle.base.proofs.Lists.{rest-all}
-use Rattle.base.proofs.Placing.{length-place, place-more, place-first, place-part, place-rest}
+use Rattle.base.proofs.Placing.{length-place, place-more, place-byte, place-part, place-rest}
 use Rattle.layout.specs.Number.{digits}
 use Rattle.layout.proofs.Numbers.{length-digits}
 use Rattle.refusals.specs.declared.Refusal.{Refusal}
@@ -28,7 +28,7 @@ place-number a e v out part h q =
 pub place-head : (x n : ℕ) (out part : List ℕ) → 3 ≤ length out → part ≡ digits (length (take 2 (drop 1 (set out 0 x)))) n → putMid 1 2 (set out 0 x) part ≡ place 1 (digits 2 n) (place 0 (x ∷ []) out)
 place-head x n out part h q =
     place-number 1 3 n (set out 0 x) part (simp length-set h) q
-    ∙ ap (λ (l : List ℕ). place 1 (digits 2 n) l) (place-first x out (omega arith))
+    ∙ ap (λ (l : List ℕ). place 1 (digits 2 n) l) (place-byte 0 x out (omega arith))
 
 pub length-head : (x n : ℕ) (out : List ℕ) → 3 ≤ length out → length (place 1 (digits 2 n) (place 0 (x ∷ []) out)) ≡ length out
 length-head x n out h =

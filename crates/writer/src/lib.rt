@@ -25,8 +25,8 @@ fn put_field(out: &mut [u8], field: Field, value: u32) -> usize
     let width = field.width;
     let end = 3 + width;
     out[0] = field.tag;
-    kinds::put_number(&mut out[1..3], width as u64);
-    kinds::put_number(&mut out[3..end], value as u64);
+    numbers::put_number(&mut out[1..3], width as u64);
+    numbers::put_number(&mut out[3..end], value as u64);
     end
 }
 
@@ -38,7 +38,7 @@ fn put_fields(out: &mut [u8], tags: &[u8], places: &[u32; 12])
     let mut at = 0;
     let mut i = 0;
     while i < tags.len() {
-        let field = kinds::field_of(tags[i]);
+        let field = table::field_of(tags[i]);
         let tag = field.tag as usize;
         at += put_field(&mut out[at..], field, places[tag]);
         i += 1;
@@ -53,7 +53,7 @@ fn fields_size(tags: &[u8]) -> usize
     let mut sum = 0;
     let mut i = 0;
     while i < tags.len() {
-        let field = kinds::field_of(tags[i]);
+        let field = table::field_of(tags[i]);
         sum += 3 + field.width;
         i += 1;
     }
@@ -72,7 +72,7 @@ fn put_record(out: &mut [u8], kind: u8, tags: &[u8], places: &[u32; 12]) -> Writ
         return Written::Refused(Refusal::ShortBuffer);
     }
     out[0] = kind;
-    kinds::put_number(&mut out[1..3], body as u64);
+    numbers::put_number(&mut out[1..3], body as u64);
     put_fields(&mut out[3..], tags, places);
     Written::Count(total)
 }
@@ -82,9 +82,9 @@ fn put_step(step: Step, out: &mut [u8]) -> Written
     ensures answer { λ r. ⌜ r ≡ written (stepBytes step) 0 (now (out .entry)) ⌝ }
     ensures buffer { λ r. ⌜ now (out .exit) ≡ placed (stepBytes step) 0 (now (out .entry)) ⌝ }
 {
-    let places = kinds::places_of(step);
+    let places = table::places_of(step);
     let kind = places[0];
-    let fields = kinds::tags_of(kind);
+    let fields = table::tags_of(kind);
     let count = fields.count;
     let tags = fields.tags;
     put_record(out, kind as u8, &tags[..count], &places)

@@ -6,9 +6,10 @@ use lib.ListN.{length, getD, take, drop}
 use borrow.Author.Tests.{le-leb, lt-leb, eq-eqb, ne-eqb}
 use Rattle.layout.specs.Number.{number}
 use Rattle.refusals.specs.declared.Refusal.the-variants.{Torn}
-use Rattle.reader.specs.declared.Reading.{Reading}
-use Rattle.reader.specs.declared.Reading.the-variants.{Refused}
-use Rattle.reader.specs.Reader.{readBody, readRecord}
+use Rattle.kinds.specs.declared.Reading.{Reading}
+use Rattle.kinds.specs.declared.Reading.the-variants.{Refused}
+use Rattle.bodies.specs.Body.{readBody}
+use Rattle.reader.specs.Reader.{readRecord}
 use Rattle.base.proofs.Lists.{rest-all}
 use borrow.Author.Needs.{needs}
 use Rattle.reader.proofs.read.Statement.{statement}

@@ -2,8 +2,8 @@
 use mathlib.Core.Path.{sym, ap, _∙_}
 use Prim.Native.Nat.{ℕ}
 use native.Mathlib.Omega.{arith}
-use Rattle.reader.specs.Reader.{readBody}
-use Rattle.reader.proofs.ByKind.{no-kind}
+use Rattle.bodies.specs.Body.{readBody}
+use Rattle.bodies.proofs.ByKind.{no-kind}
 use borrow.Author.Needs.{needs}
 use Rattle.reader.proofs.read_body.Statement.{statement}
 use Rattle.reader.proofs.read_body.Tie as tie

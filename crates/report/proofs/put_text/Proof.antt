@@ -1,7 +1,8 @@
 -- `report::put_text` meets its contract: a torn opening, a refused one, and one that the steps follow.
 use mathlib.Core.Path.{refl, _∙_}
 use native.Mathlib.Omega.{arith}
-use Rattle.report.proofs.Texts.{put-more, text-torn, text-refused, text-accepted, text-placed, held-torn, held-refused, held-accepted, steps-room}
+use Rattle.base.proofs.Placing.{placed-more}
+use Rattle.report.proofs.Texts.{text-torn, text-refused, text-accepted, text-placed, held-torn, held-refused, held-accepted, steps-room}
 use borrow.Author.Needs.{needs}
 use Rattle.report.proofs.put_text.Statement.{statement}
 use Rattle.report.proofs.put_text.Tie as tie
@@ -81,7 +82,7 @@ returns-2 c =
     let told = c .before .before .before .before .before .before .before .before .enum-told .given .1 in
     let steps = c .before .before .before .before .put-steps .ensures in (
       text-placed _ _ _ (s .args .out .now) _ (text-accepted (s .args .rec .now) (s .args .input .now) (s .pre .0) long _ _ _ n b t _ _ (opened .0) (opened .1) _ told)
-          (put-more 0 _ _ _ _ (s .args .out .now) _ _ (omega arith) (c .before .before .before .before .before .before .before .before .before .before .before .before .put-line2 .ensures) (steps .0)),
+          (placed-more 0 _ _ _ _ (s .args .out .now) _ _ (omega arith) (c .before .before .before .before .before .before .before .before .before .before .before .before .put-line2 .ensures) (steps .0)),
       steps .1 ∙ held-accepted (s .args .rec .now) (s .args .input .now) (s .pre .0) long _ _ _ n b t _ _ (opened .0) (opened .1) _ told,
     )
 

@@ -6,7 +6,7 @@ use denote.Ref.{now}
 use Rattle.layout.specs.Number.{Bytes}
 use Rattle.refusals.specs.declared.Refusal.{Refusal}
 use Rattle.kinds.specs.declared.Step.{Step}
-use Rattle.reader.specs.declared.Reading.the-variants.{Step as Read, Refused}
+use Rattle.kinds.specs.declared.Reading.the-variants.{Step as Read, Refused}
 use Rattle.writer.specs.declared.Written.{Written}
 use Rattle.writer.specs.declared.Written.the-variants.{Refused as NotWritten}
 use Rattle.kinds.specs.Record.{stepBytes}

@@ -10,8 +10,8 @@ use Rattle.refusals.specs.declared.Refusal.{Refusal}
 use Rattle.refusals.specs.declared.Refusal.the-variants.{ShortBuffer}
 use Rattle.refusals.specs.Packing.{done, refused}
 use Rattle.kinds.specs.declared.Step.{Step}
-use Rattle.reader.specs.declared.Reading.{Reading}
-use Rattle.reader.specs.declared.Reading.the-variants.{Step as Read, Refused}
+use Rattle.kinds.specs.declared.Reading.{Reading}
+use Rattle.kinds.specs.declared.Reading.the-variants.{Step as Read, Refused}
 use Rattle.kinds.specs.Kinds.{places}
 use Rattle.base.specs.Placing.{place}
 use Rattle.wire.specs.Entries.{readAnswer, readAfter}

@@ -9,7 +9,7 @@ use lib.Seq.{length-take-le}
 use borrow.Author.Tests.{le-leb, lt-leb, not-true, not-false}
 use Rattle.refusals.specs.declared.Refusal.the-variants.{Torn}
 use Rattle.kinds.specs.declared.Step.{Step}
-use Rattle.reader.specs.declared.Reading.the-variants.{Step as Read, Refused}
+use Rattle.kinds.specs.declared.Reading.the-variants.{Step as Read, Refused}
 use Rattle.kinds.specs.Kinds.{kindOf, places, kindIn, fit}
 use Rattle.base.specs.Placing.{place}
 use Rattle.wire.specs.Entries.{same, toldBy, told}

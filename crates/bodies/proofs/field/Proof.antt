@@ -1,0 +1,42 @@
+-- `bodies::field` meets its contract: the tag and the length, taken off four bytes, leave the value where they stand there.
+use mathlib.Core.Path.{sym, _∙_}
+use Prim.Native.Nat.{_+_, _*_, _%_, _^_}
+use native.Mathlib.Omega.{arith}
+use Rattle.bodies.proofs.Seeing.{seen-at}
+use borrow.Author.Needs.{needs}
+use Rattle.bodies.proofs.field.Statement.{statement}
+use Rattle.bodies.proofs.field.Tie as tie
+
+number-at-requires : tie.Need-number-at-requires
+number-at-requires c κs = search needs
+
+wide-requires : tie.Need-wide-requires
+wide-requires c κs = search needs
+
+mul-wrapping-sub-u32 : tie.Need-mul-wrapping-sub-u32
+mul-wrapping-sub-u32 c = search needs
+
+add-wrapping-sub-u32 : tie.Need-add-wrapping-sub-u32
+add-wrapping-sub-u32 c = search needs
+
+wrapping-sub-u32-requires : tie.Need-wrapping-sub-u32-requires
+wrapping-sub-u32-requires c κs = search needs
+
+returns : tie.Need-returns
+returns c =
+    let s = c .before .before .before .before in
+    let w = c .before .wide .ensures in
+    seen-at (s .args .bytes .now) (λ k. c .before .before .before .shared-slice-known .given k .fits) (s .args .at) (s .args .tag) (c .wrapping-sub-u32 .result)
+    (c .before .before .number-at .result) (s .pre) (omega (arith, w)) (search needs) (c .before .before .number-at .ensures)
+    ((λ i. (c .wrapping-sub-u32 .result + (sym (w .0) i * 16777216 + 256)) % 2 ^ 32) ∙ c .wrapping-sub-u32 .ensures)
+
+pub field-spec : {M : Type 1} → statement M
+field-spec =
+    tie.close
+    (tie.spec
+    number-at-requires
+    wide-requires
+    mul-wrapping-sub-u32
+    add-wrapping-sub-u32
+    wrapping-sub-u32-requires
+    returns)

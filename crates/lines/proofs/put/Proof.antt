@@ -1,0 +1,21 @@
+-- `lines::put` meets its contract: a byte stored is a byte placed.
+use mathlib.Core.Path.{refl}
+use Rattle.base.proofs.Placing.{place-byte}
+use borrow.Author.Needs.{needs}
+use Rattle.lines.proofs.put.Statement.{statement}
+use Rattle.lines.proofs.put.Tie as tie
+
+slice-write-out : tie.Need-slice-write-out
+slice-write-out c = search needs
+
+add-result : tie.Need-add-result
+add-result c = search needs
+
+same-length : tie.Need-same-length
+same-length c = search needs
+
+returns : tie.Need-returns
+returns c = let s = c in (refl, place-byte (s .args .at) (s .args .byte) (s .args .out .now) (s .pre))
+
+pub put-spec : {M : Type 1} → statement M
+put-spec = tie.close (tie.spec slice-write-out add-result same-length returns)
