@@ -1,15 +1,14 @@
 // What a component has of a block.
 ghost use mathlib.Core.Path.{_≡_};
-ghost use Prim.Native.Nat.{_+_, _*_, _≤_, _<_};
-ghost use lib.ListN.{length, getD};
-ghost use Rattle.base.specs.Folds.{one};
-ghost use Rattle.layout.specs.Layout.{over};
+ghost use Prim.Native.Nat.{_+_, _*_, _<_};
+ghost use lib.ListN.{getD};
 ghost use Rattle.protocol.specs.Rack.{cellAt};
 ghost use Rattle.protocol.specs.Rules.{stored};
-ghost use Rattle.record.specs.Record.{tokens, get, put};
+ghost use Rattle.record.specs.Record.{get, put};
 ghost use Rattle.record.specs.Needs.{InCell};
 ghost use Rattle.record.specs.Changes.{MarksOf, marked, filled, onCell};
 use record::Marks;
+use record::tokens;
 use record::words;
 
 // Where the cell of a block and a component stands.
@@ -17,22 +16,6 @@ pub fn cell_place(block: u8, component: u8) -> usize
     ensures { λ r. ⌜ r ≡ 2436 + 592 * block + 35 * component ⌝ }
 {
     2436 + 592 * (block as usize) + 35 * (component as usize)
-}
-
-fn byte_of(mark: bool) -> u8
-    ensures { λ r. ⌜ r ≡ one mark ⌝ }
-{
-    if mark { 1 } else { 0 }
-}
-
-// The marks at a place: of a cell, or of a message whose data mark stands for valid.
-pub fn put_marks(s: &mut [u8], at: usize, marks: Marks)
-    requires { ⌜ at + 3 ≤ length (now s) ⌝ }
-    ensures { λ r. ⌜ now (s .exit) ≡ over at 3 (tokens .write (marks .plain, (marks .owner, marks .valid))) (now (s .entry)) ⌝ }
-{
-    s[at] = marks.plain;
-    s[at + 1] = byte_of(marks.owner);
-    s[at + 2] = byte_of(marks.valid);
 }
 
 // The marks of a cell.
@@ -54,7 +37,7 @@ pub fn set_marks(rec: &mut [u8], block: u8, component: u8, marks: Marks)
     ensures { λ r. ⌜ now (rec .exit) ≡ put (onCell (get (now (rec .entry))) block component (marked (cellAt (get (now (rec .entry))) block component) marks)) (now (rec .entry)) ⌝ }
 {
     let at = cell_place(block, component);
-    put_marks(rec, at, marks);
+    tokens::put_marks(rec, at, marks);
 }
 
 // Another plain count, owner, valid mark and words.
@@ -63,7 +46,7 @@ pub fn set_cell(rec: &mut [u8], block: u8, component: u8, marks: Marks, values: 
     ensures { λ r. ⌜ now (rec .exit) ≡ put (onCell (get (now (rec .entry))) block component (filled marks values)) (now (rec .entry)) ⌝ }
 {
     let at = cell_place(block, component);
-    put_marks(rec, at, marks);
+    tokens::put_marks(rec, at, marks);
     words::put_words(rec, at + 3, values);
 }
 

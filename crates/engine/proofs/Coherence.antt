@@ -16,10 +16,10 @@ use Rattle.record.specs.Record.{get}
 use Rattle.record.proofs.Live.{live-of}
 use Rattle.opening.specs.Opening.{openCheck, openReply, openTold, openAfter}
 use Rattle.opening.proofs.Opened.{sized, open-get, open-sound, open-bytes}
-use Rattle.engine.specs.Lists.{answers, accesses}
+use Rattle.judging.specs.Lists.{answers, accesses}
 use Rattle.engine.specs.Coherence.{Coherence, RunCoherence}
 use Rattle.engine.specs.Run.{given}
-use Rattle.engine.proofs.Lists.{stepsOf, runs}
+use Rattle.judging.proofs.Lists.{stepsOf, runs}
 
 passes : (k : Check) → openReply k ≡ Accepted Done → k ≡ Pass
 passes Pass e = refl

@@ -16,7 +16,7 @@ use Rattle.base.specs.Folds.{sum}
 use Rattle.judging.specs.Step.{stepTold, stepAfter}
 use Rattle.cuts.specs.Cut.{cutAt, cuts}
 use Rattle.cuts.proofs.Cutting.{cuts-first, cuts-none, cuts-zero, span}
-use Rattle.engine.specs.Lists.{after, replies}
+use Rattle.judging.specs.Lists.{after, replies}
 use Rattle.packing.specs.Packing.{packedReply}
 use Rattle.engine.specs.Run.{given, Ran}
 

@@ -9,7 +9,7 @@ use Rattle.protocol.specs.Rack.{tokensOf, ownersOf}
 use Rattle.protocol.specs.Memory.{blank, flat}
 use Rattle.record.specs.Record.{get}
 use Rattle.opening.specs.Opening.{openTold, openAfter}
-use Rattle.engine.specs.Lists.{after, answers, accesses}
+use Rattle.judging.specs.Lists.{after, answers, accesses}
 use Rattle.engine.specs.Run.{given, Ran}
 
 -- The answered loads give what the flat memory gives when it is handed the accepted loads and stores; and after the list

@@ -5,7 +5,7 @@ use mathlib.Core.List.{List, _++_, map}
 use lib.ListN.{length, drop}
 use Rattle.base.specs.Folds.{sum}
 use Rattle.cuts.specs.Cut.{cuts}
-use Rattle.engine.specs.Lists.{after, replies}
+use Rattle.judging.specs.Lists.{after, replies}
 use Rattle.packing.specs.Packing.{packedReply}
 
 -- the records from a place of the list on, as many as there are places for replies

@@ -29,7 +29,7 @@ pub extern "C" fn hyl_step(rec: &mut [u8], step: &[u8]) -> u64
     ensures reply { λ r. ⌜ r ≡ packedReply (stepTold (now (rec .entry)) (now (step .entry))) ⌝ }
     ensures buffer { λ r. ⌜ now (rec .exit) ≡ stepAfter (now (rec .entry)) (now (step .entry)) ⌝ }
 {
-    packing::reply(super::step(rec, step))
+    packing::reply(judging::step(rec, step))
 }
 
 // Gives the records of a list from a place on; `at` goes to where the next run starts.

@@ -1,26 +1,8 @@
-// The engine: steps given as bytes to the record in a lent buffer, singly and as a list.
-ghost use mathlib.Core.Path.{_≡_};
-ghost use Rattle.judging.specs.Step.{stepTold, stepAfter};
+// The engine: a list of steps given as bytes to the record in a lent buffer. `judging::step` gives one.
 ghost use Rattle.engine.specs.Run.{Ran};
 use base::both;
-use kinds::Reading;
-use protocol::Reply;
 
 pub mod exports;
-
-// Gives the bytes of a step to the record.
-pub fn step(rec: &mut [u8], bytes: &[u8]) -> Reply
-    ensures reply { λ r. ⌜ r ≡ stepTold (now (rec .entry)) (now (bytes .entry)) ⌝ }
-    ensures buffer { λ r. ⌜ now (rec .exit) ≡ stepAfter (now (rec .entry)) (now (bytes .entry)) ⌝ }
-{
-    match reader::read(bytes) {
-        Reading::Refused(refusal) => Reply::Refused(refusal),
-        Reading::Step(step) => {
-            let sound = soundness::sound(rec);
-            judging::judged(rec, sound, step)
-        }
-    }
-}
 
 // Gives the records of a list from a place on, one after the other, while there are places for replies. Soundness is decided once: an accepted
 // step keeps it, and a refused one changes nothing.

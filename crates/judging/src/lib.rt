@@ -1,4 +1,4 @@
-// A step on a record whose soundness is known, told as a step or as bytes.
+// The bytes of a step given to the record in a lent buffer: torn, then unsound, then the rules.
 ghost use mathlib.Core.Path.{_≡_};
 ghost use Rattle.record.specs.Sound.{soundBytes};
 ghost use Rattle.protocol.specs.Memory.{reply};
@@ -30,5 +30,19 @@ pub fn next(rec: &mut [u8], sound: bool, bytes: &[u8]) -> Reply
     match reader::read(bytes) {
         Reading::Refused(refusal) => Reply::Refused(refusal),
         Reading::Step(step) => judged(rec, sound, step),
+    }
+}
+
+// Gives the bytes of a step to the record.
+pub fn step(rec: &mut [u8], bytes: &[u8]) -> Reply
+    ensures reply { λ r. ⌜ r ≡ stepTold (now (rec .entry)) (now (bytes .entry)) ⌝ }
+    ensures buffer { λ r. ⌜ now (rec .exit) ≡ stepAfter (now (rec .entry)) (now (bytes .entry)) ⌝ }
+{
+    match reader::read(bytes) {
+        Reading::Refused(refusal) => Reply::Refused(refusal),
+        Reading::Step(step) => {
+            let sound = soundness::sound(rec);
+            judged(rec, sound, step)
+        }
     }
 }

@@ -11,6 +11,7 @@ ghost use Rattle.record.specs.Needs.{Whole};
 ghost use Rattle.record.specs.Changes.{withMesh};
 use protocol::Message;
 use record::Marks;
+use record::tokens;
 use record::words;
 
 // The message at a position.
@@ -40,7 +41,7 @@ fn put_message(s: &mut [u8], at: usize, m: Message)
     s[at] = m.sender;
     s[at + 1] = m.target;
     s[at + 2] = m.block;
-    cells::put_marks(
+    tokens::put_marks(
         s,
         at + 3,
         Marks {

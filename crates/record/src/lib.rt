@@ -1,5 +1,6 @@
 // The rack's record: its figures, read and written at their places. specs/Record.antt has the layout.
 pub mod sizes;
+pub mod tokens;
 pub mod words;
 
 // A cell's plain count, owner and valid mark.

@@ -24,7 +24,7 @@ use Rattle.lines.proofs.Lines.{length-line}
 use Rattle.opening.specs.Opening.{openTold, openAfter}
 use Rattle.judging.specs.Step.{stepTold, stepAfter}
 use Rattle.cuts.specs.Cut.{cutAt, cuts}
-use Rattle.engine.specs.Lists.{replies, after}
+use Rattle.judging.specs.Lists.{replies, after}
 use Rattle.cuts.proofs.Cutting.{cuts-first, cuts-none, span}
 use Rattle.report.specs.Text.{lines, stepLines, text, afterSteps, held}
 

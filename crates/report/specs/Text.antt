@@ -10,7 +10,7 @@ use Rattle.protocol.specs.declared.Reply.the-variants.{Accepted, Refused}
 use Rattle.lines.specs.Line.{line}
 use Rattle.opening.specs.Opening.{openTold, openAfter}
 use Rattle.cuts.specs.Cut.{cuts}
-use Rattle.engine.specs.Lists.{replies, after}
+use Rattle.judging.specs.Lists.{replies, after}
 
 -- lines of replies, with rising indices
 unfoldable pub lines : ℕ → List Reply → List ℕ

@@ -6,7 +6,7 @@ use lib.ListN.{length, getD}
 use Prim.Native.Nat.{ℕ, _-_, _<_}
 use mathlib.Core.Path.{_≡_, sym, ap, _∙_}
 use Rattle.record.specs.Sound.{soundBytes}
-use Rattle.engine.proofs.Lists.{sound-kept}
+use Rattle.judging.proofs.Lists.{sound-kept}
 use Rattle.engine.proofs.Running.{Going, going-start, going-more, going-end, ended, goes}
 use borrow.Author.Needs.{needs}
 use Rattle.engine.proofs.run.Statement.{statement}

@@ -1,12 +1,12 @@
--- `cells::put_marks` meets its contract: three bytes, each in its place.
+-- `record::tokens::put_marks` meets its contract: three bytes, each in its place.
 use Rattle.record.proofs.Writing.{tokens-write}
 use Prim.Native.Nat.{_+_}
 use mathlib.Core.Path.{_∙_}
 use lib.ListN.{set, length-set}
 use native.Mathlib.Omega.{arith}
 use borrow.Author.Needs.{needs}
-use Rattle.cells.proofs.put_marks.Statement.{statement}
-use Rattle.cells.proofs.put_marks.Tie as tie
+use Rattle.record.proofs.tokens.put_marks.Statement.{statement}
+use Rattle.record.proofs.tokens.put_marks.Tie as tie
 
 slice-write-s : tie.Need-slice-write-s
 slice-write-s c = search needs

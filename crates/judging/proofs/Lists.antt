@@ -25,8 +25,8 @@ use Rattle.record.specs.Record.{get}
 use Rattle.record.specs.Sound.{soundBytes}
 use Rattle.record.proofs.Live.{Live, live-of, sound-of, put-is, put-live}
 use Rattle.steps.specs.Apply.{recordAfter}
 use Rattle.judging.specs.Step.{outcome, stepTold, stepAfter}
-use Rattle.engine.specs.Lists.{after, answered, handed, answers, accesses}
+use Rattle.judging.specs.Lists.{after, answered, handed, answers, accesses}
 
 -- a step that was read has a value of 32 bits
 step-fits : (t : Step) → fits t ≡ true → StepFits t

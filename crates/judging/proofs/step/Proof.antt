@@ -1,9 +1,9 @@
--- `engine::step` meets its contract: what was read decides, then soundness.
+-- `judging::step` meets its contract: what was read decides, then soundness.
 use mathlib.Core.Path.{refl}
 use Rattle.judging.proofs.Judging.{stepped}
 use borrow.Author.Needs.{needs}
-use Rattle.engine.proofs.step.Statement.{statement}
-use Rattle.engine.proofs.step.Tie as tie
+use Rattle.judging.proofs.step.Statement.{statement}
+use Rattle.judging.proofs.step.Tie as tie
 
 read-requires : tie.Need-read-requires
 read-requires c κs = search needs
