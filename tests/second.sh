@@ -4,4 +4,4 @@
 set -euo pipefail
 cd "$(dirname "$0")/second"
 [ -f ../../target/staticlib/libengine.a ] && [ -f ../../target/staticlib/libwire.a ] || { echo "no archives in target/staticlib" >&2; exit 1; }
-cargo run --release --offline --quiet --bin second -- "$@"
+cargo run --profile compare --offline --quiet --bin second -- "$@"
