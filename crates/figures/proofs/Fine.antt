@@ -1,40 +1,25 @@
--- A cell and a message by their bytes: the conjuncts of the definitions in the order of the code, with marks of 0 or 1 taken as numbers.
+-- A cell by its bytes: the conjuncts of the definition in the order of the code, with marks of 0 or 1 taken as numbers.
 use Prim.Native.Nat.{ℕ, _+_, _≤_, _<_}
 use native.Mathlib.Omega.{arith}
 use mathlib.Core.Path.{_≡_, sym, ap, _∙_}
 use mathlib.Core.Logic.{⊎-elim}
-use mathlib.Core.Bool.{Bool, true, not, _&&_, and-comm, and-assoc}
+use mathlib.Core.Bool.{Bool, true, _&&_, and-comm, and-assoc}
 use mathlib.Core.List.{List}
 use lib.ListN.{length, getD}
 use lib.Dec.{eqb, leb, ltb}
-use borrow.Author.Tests.{eq-eqb, ne-eqb, eqb-true, le-leb, leb-true, ltb-true, lt-ltb}
-use Rattle.base.specs.Folds.{one, implies, every}
-use Rattle.base.proofs.Tests.{and-l, and-r, and-of, and-true, and-under, same-test, lt-or-le, implied, implies-of, eqb-one}
+use borrow.Author.Tests.{eq-eqb, eqb-true, le-leb, leb-true, ltb-true, lt-ltb}
+use Rattle.base.specs.Folds.{one, implies}
+use Rattle.base.proofs.Tests.{and-l, and-r, and-of, and-under, same-test, lt-or-le, implied, implies-of, eqb-one}
 use Rattle.layout.specs.Layout.{part}
-use Rattle.protocol.specs.Sound.{soundCell, soundMessage}
+use Rattle.protocol.specs.Sound.{soundCell}
 use Rattle.record.specs.Record.{words}
-use Rattle.record.proofs.Bytes.{words-eight, cell-read, cell-formed, message-read, message-formed}
-use Rattle.figures.specs.Fine.{marksFine, cellFine, endsFine, messageFine}
+use Rattle.record.proofs.Bytes.{words-eight, cell-read, cell-formed}
+use Rattle.figures.specs.Fine.{marksFine, cellFine}
 
--- ---- tests
-
--- the conjuncts of a cell and of a message in the order of the code
+-- the conjuncts of a cell in the order of the code
 cell-order : (o v e t c : Bool) → e ≡ true → (o && v && (e && t && c)) ≡ (o && v && c && t)
 cell-order o v e t c h =
     ap (λ (z : Bool). o && v && (z && t && c)) h ∙ ap (λ (z : Bool). o && v && z) (and-comm t c) ∙ sym (and-assoc (o && v) c t)
-
-message-order : (o d e w x y a k t c : Bool) → e ≡ true
-    → (o && d && (e && w && x && y && a && k && t && c)) ≡ (o && d && c && t && ((x && y) && (a && k)) && w)
-message-order o d e w x y a k t c h =
-    same-test (o && d && (e && w && x && y && a && k && t && c)) (o && d && c && t && ((x && y) && (a && k)) && w)
-    (λ q. and-of _ _ (and-of _ _ (and-of _ _ (and-of (o && d) c (search (and-l, and-r) depth 12) (search (and-l, and-r) depth 12)) (search (and-l, and-r) depth 12))
-    (and-of _ _ (and-of x y (search (and-l, and-r) depth 12) (search (and-l, and-r) depth 12)) (and-of a k (search (and-l, and-r) depth 12) (search (and-l, and-r) depth 12))))
-    (search (and-l, and-r) depth 12))
-    (λ q. and-of (o && d) (e && w && x && y && a && k && t && c) (search (and-l, and-r) depth 12)
-    (and-of _ _ (and-of _ _ (and-of _ _ (and-of _ _ (and-of _ _ (and-of _ _ (and-of e w h (search (and-l, and-r) depth 12)) (search (and-l, and-r) depth 12))
-    (search (and-l, and-r) depth 12)) (search (and-l, and-r) depth 12)) (search (and-l, and-r) depth 12)) (search (and-l, and-r) depth 12)) (search (and-l, and-r) depth 12)))
-
--- ---- a cell and a message by their bytes
 
 -- a test that asks for the marks' order
 pub marks-is : (t : Bool) (o v : ℕ) → (t ≡ true → (o ≤ v) × (v < 2)) → (o ≤ v → v < 2 → t ≡ true) → t ≡ marksFine o v
@@ -59,7 +44,7 @@ valid-is h v b =
 
 -- an owner's mark that is 0 or 1 counts as the number that it is
 module _ (p o v : ℕ) (q : (ltb o 2 && ltb v 2) ≡ true) where
-  owned : p + one (eqb o 1) ≡ p + o
+  pub owned : p + one (eqb o 1) ≡ p + o
   owned = ap (λ (k : ℕ). p + k) (eqb-one o (ltb-true o 2 (and-l (ltb o 2) (ltb v 2) q)))
 
   valid : implies (eqb v 1) (ltb 0 (p + one (eqb o 1))) ≡ leb v (p + o)
@@ -77,45 +62,3 @@ module _ (s : List ℕ) (at : ℕ) where
       (λ i. cell-formed s at i && soundCell (cell-read s at i))
       ∙ and-under (ltb o 2 && ltb v 2) (e && implies (eqb v 1) (ltb 0 (p + one (eqb o 1))) && c) (e && leb v (p + o) && c) (λ q i. e && valid p o v q i && c)
       ∙ cell-order (ltb o 2) (ltb v 2) e (leb v (p + o)) c (eq-eqb (length (words .read (part (at + 3) 32 s))) 8 (words-eight (part (at + 3) 32 s)))
-
-  module _ (n b : ℕ) where
-    -- what is asked of a message but for its words
-    abbrev pub headFine : Bool
-    headFine = marksFine (getD s (at + 4) 0) (getD s (at + 5) 0) && ltb 0 (getD s (at + 3) 0 + getD s (at + 4) 0) && endsFine n b s at
-
-    pub message-is : messageFine n b s at ≡ (headFine && implies (not (eqb (getD s (at + 5) 0) 1)) (every (eqb 0) (words .read (part (at + 6) 32 s))))
-    unfolding messageFine
-    message-is =
-        let x : ℕ = getD s at 0 in
-        let y : ℕ = getD s (at + 1) 0 in
-        let k : ℕ = getD s (at + 2) 0 in
-        let p : ℕ = getD s (at + 3) 0 in
-        let o : ℕ = getD s (at + 4) 0 in
-        let d : ℕ = getD s (at + 5) 0 in
-        let ws : List ℕ = words .read (part (at + 6) 32 s) in
-        let e : Bool = eqb (length ws) 8 in
-        let w : Bool = implies (not (eqb d 1)) (every (eqb 0) ws) in
-        let c : Bool = implies (eqb o 1) (eqb d 1) in
-        (λ i. message-formed s at i && soundMessage n b (message-read s at i))
-        ∙ and-under (ltb o 2 && ltb d 2)
-        (e && w && leb x n && leb y n && not (eqb x y) && ltb k b && ltb 0 (p + one (eqb o 1)) && c)
-        (e && w && leb x n && leb y n && not (eqb x y) && ltb k b && ltb 0 (p + o) && c)
-        (λ q i. e && w && leb x n && leb y n && not (eqb x y) && ltb k b && ltb 0 (owned p o d q i) && c)
-        ∙ message-order (ltb o 2) (ltb d 2) e w (leb x n) (leb y n) (not (eqb x y)) (ltb k b) (ltb 0 (p + o)) c (eq-eqb (length ws) 8 (words-eight (part (at + 6) 32 s)))
-
-    -- with data the words are free
-    pub message-full : getD s (at + 5) 0 ≡ 1 → headFine ≡ messageFine n b s at
-    message-full h =
-        sym (message-is
-        ∙ ap (λ (t : Bool). headFine && implies (not t) (every (eqb 0) (words .read (part (at + 6) 32 s)))) (eq-eqb (getD s (at + 5) 0) 1 h)
-        ∙ and-true headFine)
-
-    pub message-bare : (getD s (at + 5) 0 ≡ 1 → ⊥) → (headFine && every (eqb 0) (words .read (part (at + 6) 32 s))) ≡ messageFine n b s at
-    message-bare h =
-        sym (message-is
-        ∙ ap (λ (t : Bool). headFine && implies (not t) (every (eqb 0) (words .read (part (at + 6) 32 s)))) (ne-eqb (getD s (at + 5) 0) 1 h))
-
-    pub message-block : messageFine n b s at ≡ true → getD s (at + 2) 0 < b
-    message-block h =
-        let q : (headFine && implies (not (eqb (getD s (at + 5) 0) 1)) (every (eqb 0) (words .read (part (at + 6) 32 s)))) ≡ true = sym message-is ∙ h in
-        ltb-true (getD s (at + 2) 0) b (search (and-l, and-r) depth 8)

@@ -29,7 +29,8 @@ use Rattle.record.proofs.Record.{Formed, formed-of, well-formed, boards-is, blo
 use Rattle.record.proofs.Figures.{cell-at, cell-stands, claims-at, message-at, message-stands}
 use Rattle.record.proofs.Bytes.{cell-read, cell-formed, message-read, message-formed, record-formed}
 use Rattle.base.proofs.Tests.{and-known}
-use Rattle.figures.specs.Fine.{cellFine, messageFine, weightAt}
+use Rattle.figures.specs.Fine.{cellFine, weightAt}
+use Rattle.message_figures.specs.Message.{messageFine}
 use Rattle.soundness.specs.Deciding.{carriedAt, flying, resting, blockFine}
 
 -- ---- the weights

@@ -7,13 +7,14 @@ ghost use Rattle.base.specs.Folds.{below};
 ghost use Rattle.protocol.specs.Sound.{sizes};
 ghost use Rattle.record.specs.Record.{recordLength};
 ghost use Rattle.record.specs.Sound.{soundBytes};
-ghost use Rattle.figures.specs.Fine.{cellFine, messageFine};
+ghost use Rattle.figures.specs.Fine.{cellFine};
+ghost use Rattle.message_figures.specs.Message.{messageFine};
 ghost use Rattle.soundness.specs.Deciding.{flying, resting, blockFine};
 use base::both;
 use base::wide;
 use figures::cell_fine;
-use figures::message_fine;
 use figures::weight;
+use message_figures::message_fine;
 use record::sizes;
 
 // Whether some cells are fine, and their weight.

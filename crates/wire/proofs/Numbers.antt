@@ -17,7 +17,7 @@ use Rattle.kinds.specs.declared.Reading.the-variants.{Step as Read, Refused}
 use Rattle.kinds.specs.Kinds.{kindOf, places, kindIn, fit, fits}
 use Rattle.kinds.specs.Record.{stepBytes}
 use Rattle.reader.specs.Reader.{readRecord}
-use Rattle.wire.specs.Entries.{same, toldBy, told}
+use Rattle.told.specs.Told.{same, toldBy, told}
 use Rattle.kinds.proofs.Table.{places-length}
 use Rattle.reader.proofs.Theorems.{refused-read, read-written, read-fits}
 

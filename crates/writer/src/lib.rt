@@ -82,7 +82,7 @@ fn put_step(step: Step, out: &mut [u8]) -> Written
     ensures answer { λ r. ⌜ r ≡ written (stepBytes step) 0 (now (out .entry)) ⌝ }
     ensures buffer { λ r. ⌜ now (out .exit) ≡ placed (stepBytes step) 0 (now (out .entry)) ⌝ }
 {
-    let places = table::places_of(step);
+    let places = places::places_of(step);
     let kind = places[0];
     let fields = table::tags_of(kind);
     let count = fields.count;

@@ -10,9 +10,9 @@ use lib.ListN.{length, getD, length-replicate, getD-replicate, length-set}
 use Rattle.base.specs.Folds.{below}
 use Rattle.base.proofs.Tests.{differs, and-of}
 use Rattle.base.proofs.Folds.{below-none, below-next, below-fails}
-use Rattle.figures.specs.Fine.{messageFine}
+use Rattle.message_figures.specs.Message.{messageFine}
 use Rattle.soundness.specs.Deciding.{flying}
-use Rattle.figures.proofs.Fine.{message-block}
+use Rattle.message_figures.proofs.Message.{message-block}
 use Rattle.soundness.proofs.Deciding.{flying-none, flying-most, sums-turn}
 use Rattle.soundness.proofs.mesh_fine.Statement.{statement}
 use Rattle.soundness.proofs.mesh_fine.Tie as tie

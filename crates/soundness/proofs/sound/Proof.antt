@@ -6,7 +6,7 @@ use mathlib.Core.Bool.{true}
 use lib.ListN.{getD}
 use borrow.Author.Tests.{not-true, not-false}
 use Rattle.base.specs.Folds.{below}
-use Rattle.figures.specs.Fine.{messageFine}
+use Rattle.message_figures.specs.Message.{messageFine}
 use Rattle.soundness.specs.Deciding.{flying, blockFine}
 use Rattle.soundness.proofs.Deciding.{headerFine, meshFine, few-boards, few-blocks, few-messages, flying-most, unsound-room, unsound-header, unsound-mesh, sound-blocks}
 use borrow.Author.Needs.{needs}

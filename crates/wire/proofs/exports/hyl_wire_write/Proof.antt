@@ -5,8 +5,8 @@ use Rattle.wire.specs.Entries.{writeAnswer, writeAfter}
 use Rattle.wire.proofs.exports.hyl_wire_write.Statement.{statement}
 use Rattle.wire.proofs.exports.hyl_wire_write.Tie as tie
 
-told-requires : tie.Need-told-requires
-told-requires c κs = search needs
+step-requires : tie.Need-step-requires
+step-requires c κs = search needs
 
 enum-known-step : tie.Need-enum-known-step
 enum-known-step c = search needs
@@ -25,20 +25,20 @@ same-length c = search needs
 
 returns : tie.Need-returns
 returns c =
-    let step = c .before .before .before .before .before in
-    rw (sym (step .before .before .told .ensures) ∙ step .step .given .1) (c .before .before .put-told .ensures)
+    let told = c .before .before .before .before .before in
+    rw (sym (told .before .before .step .ensures) ∙ told .step2 .given .1) (c .before .before .put-told .ensures)
 
 returns-2 : tie.Need-returns-2
 unfolding writeAnswer writeAfter
 returns-2 c =
     let refusal = c .before .before in
-    rw (sym (refusal .before .before .told .ensures) ∙ refusal .refusal .given .1) (c .pack-refused .ensures, refl)
+    rw (sym (refusal .before .before .step .ensures) ∙ refusal .refusal .given .1) (c .pack-refused .ensures, refl)
 
 pub hyl-wire-write-spec : {M : Type 1} → statement M
 hyl-wire-write-spec =
     tie.close
     (tie.spec
-    told-requires
+    step-requires
     enum-known-step
     put-told-requires
     enum-known-refusal

@@ -1,4 +1,4 @@
--- `wire::exports::places_fit` meets its contract: whether all the fields' numbers are in bounds is whether those left are.
+-- `told::places_fit` meets its contract: whether all the fields' numbers are in bounds is whether those left are.
 use mathlib.Core.Path.{_≡_, refl, sym, _∙_}
 use Prim.Native.Nat.{ℕ, _+_, _-_, _≤_, _<_}
 use native.Mathlib.Omega.{arith}
@@ -13,8 +13,8 @@ use Rattle.kinds.specs.declared.Field.{Field}
 use Rattle.kinds.specs.Kinds.{fieldOf, get, fit}
 use Rattle.base.proofs.Lists.{map-next}
 use Rattle.kinds.proofs.Table.{tag-small}
-use Rattle.wire.proofs.exports.places_fit.Statement.{statement}
-use Rattle.wire.proofs.exports.places_fit.Tie as tie
+use Rattle.told.proofs.places_fit.Statement.{statement}
+use Rattle.told.proofs.places_fit.Tie as tie
 
 -- the field at i, and those left
 module _ (count : ℕ) (tags p : List ℕ) (i : ℕ) where

@@ -1,9 +1,9 @@
--- `figures::ends_fine` meets its contract: its tests are those of the definition.
+-- `message_figures::ends_fine` meets its contract: its tests are those of the definition.
 use mathlib.Core.Path.{_∙_}
 use mathlib.Core.Bool.{_&&_}
 use borrow.Author.Needs.{needs}
-use Rattle.figures.proofs.ends_fine.Statement.{statement}
-use Rattle.figures.proofs.ends_fine.Tie as tie
+use Rattle.message_figures.proofs.ends_fine.Statement.{statement}
+use Rattle.message_figures.proofs.ends_fine.Tie as tie
 
 shared-slice-read-sender : tie.Need-shared-slice-read-sender
 shared-slice-read-sender c = search needs

@@ -1,4 +1,4 @@
--- `table::step_of` meets its contract: each arm makes the step of its kind, from numbers that fit.
+-- `places::step_of` meets its contract: each arm makes the step of its kind, from numbers that fit.
 use mathlib.Core.Path.{_≡_}
 use Prim.Native.Nat.{ℕ, _<_}
 use native.Mathlib.Omega.{arith}
@@ -9,8 +9,8 @@ use Rattle.base.specs.Folds.{All}
 use Rattle.kinds.specs.Kinds.{kindOf, get, fit}
 use Rattle.kinds.proofs.Table.{kind-none, of-fit}
 use borrow.Author.Needs.{needs}
-use Rattle.table.proofs.step_of.Statement.{statement}
-use Rattle.table.proofs.step_of.Tie as tie
+use Rattle.places.proofs.step_of.Statement.{statement}
+use Rattle.places.proofs.step_of.Tie as tie
 
 -- what the fields of the kind with this kind byte say of the numbers
 bounds : (p : List ℕ) (k : ℕ) → getD p 0 0 ≡ k → fit (kindOf (getD p 0 0) .fields) p ≡ true → All (λ f. get f p < f .limit) (kindOf k .fields)

@@ -1,10 +1,10 @@
--- `figures::message_fine` meets its contract: its tests are those of the message's bytes, and of its words where it has no data.
+-- `message_figures::message_fine` meets its contract: its tests are those of the message's bytes, and of its words where it has no data.
 use mathlib.Core.Path.{_≡_, _∙_}
 use mathlib.Core.Bool.{_&&_}
-use Rattle.figures.proofs.Fine.{headFine, message-full, message-bare}
+use Rattle.message_figures.proofs.Message.{headFine, message-full, message-bare}
 use borrow.Author.Needs.{needs}
-use Rattle.figures.proofs.message_fine.Statement.{statement}
-use Rattle.figures.proofs.message_fine.Tie as tie
+use Rattle.message_figures.proofs.message_fine.Statement.{statement}
+use Rattle.message_figures.proofs.message_fine.Tie as tie
 
 -- all but the words
 head : (c : tie.After-both2) → c .both2 .result ≡ headFine (c .before .before .before .before .before .before .before .before .before .before .args .rec .now) (c .before .before .before .before .before .before .before .before .before .before .args .at) (c .before .before .before .before .before .before .before .before .before .before .args .boards) (c .before .before .before .before .before .before .before .before .before .before .args .blocks)

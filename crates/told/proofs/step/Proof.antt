@@ -1,4 +1,4 @@
--- `wire::exports::told` meets its contract: the tests of `told`, one after the other.
+-- `told::step` meets its contract: the tests of `told`, one after the other.
 use mathlib.Core.Path.{_≡_, sym, _∙_}
 use Prim.Native.Nat.{ℕ, _≤_, _<_}
 use native.Mathlib.Omega.{arith}
@@ -12,10 +12,10 @@ use Rattle.kinds.specs.declared.Step.{Step}
 use Rattle.kinds.specs.declared.Reading.the-variants.{Step as Read, Refused}
 use Rattle.kinds.specs.Kinds.{kindOf, places, kindIn, fit}
 use Rattle.base.specs.Placing.{place}
-use Rattle.wire.specs.Entries.{same, toldBy, told}
+use Rattle.told.specs.Told.{same, toldBy, told}
 use borrow.Author.Needs.{needs}
-use Rattle.wire.proofs.exports.told.Statement.{statement}
-use Rattle.wire.proofs.exports.told.Tie as tie
+use Rattle.told.proofs.step.Statement.{statement}
+use Rattle.told.proofs.step.Tie as tie
 
 -- the tests of `told`, one after the other
 module _ (ns : List ℕ) where
@@ -87,8 +87,8 @@ returns-4 c =
     let first = fit .before .before in
     tells _ (first .before .before .if1 .left) _ (first .copy-twelve .ensures) _ (fit .places-fit .ensures) (made .before .if2 .left) _ (made .step-of .ensures) _ (rw (c .before .before .places-of .ensures) at (c .before .same-places .ensures)) (c .if3 .left)
 
-pub told-spec : {M : Type 1} → statement M
-told-spec =
+pub step-spec : {M : Type 1} → statement M
+step-spec =
     tie.close
     (tie.spec
     returns

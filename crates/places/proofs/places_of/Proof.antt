@@ -1,8 +1,8 @@
--- `table::places_of` meets its contract: each arm has the numbers of its step.
+-- `places::places_of` meets its contract: each arm has the numbers of its step.
 use Rattle.kinds.specs.Kinds.{places}
 use borrow.Author.Needs.{needs}
-use Rattle.table.proofs.places_of.Statement.{statement}
-use Rattle.table.proofs.places_of.Tie as tie
+use Rattle.places.proofs.places_of.Statement.{statement}
+use Rattle.places.proofs.places_of.Tie as tie
 
 enum-known-step : tie.Need-enum-known-step
 enum-known-step c = search needs

@@ -1,9 +1,9 @@
--- `figures::words_clear` meets its contract: words are 0 where their bytes are.
+-- `message_figures::words_clear` meets its contract: words are 0 where their bytes are.
 use mathlib.Core.Path.{sym, _∙_}
 use borrow.Author.Needs.{needs}
 use Rattle.record.proofs.Bytes.{words-zero}
-use Rattle.figures.proofs.words_clear.Statement.{statement}
-use Rattle.figures.proofs.words_clear.Tie as tie
+use Rattle.message_figures.proofs.words_clear.Statement.{statement}
+use Rattle.message_figures.proofs.words_clear.Tie as tie
 
 clear-requires : tie.Need-clear-requires
 clear-requires c κs = search needs

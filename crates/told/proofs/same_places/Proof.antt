@@ -1,4 +1,4 @@
--- `wire::exports::same_places` meets its contract: the places passed are the same.
+-- `told::same_places` meets its contract: the places passed are the same.
 use mathlib.Core.Path.{_≡_, refl, sym}
 use Prim.Native.Nat.{ℕ, _+_, _-_, _≤_, _<_}
 use native.Mathlib.Omega.{arith}
@@ -11,9 +11,9 @@ use borrow.Author.Tests.{eq-eqb, ne-eqb}
 use Rattle.base.specs.Folds.{below}
 use Rattle.base.proofs.Tests.{and-of}
 use Rattle.base.proofs.Folds.{below-fails}
-use Rattle.wire.specs.Entries.{same}
-use Rattle.wire.proofs.exports.same_places.Statement.{statement}
-use Rattle.wire.proofs.exports.same_places.Tie as tie
+use Rattle.told.specs.Told.{same}
+use Rattle.told.proofs.same_places.Statement.{statement}
+use Rattle.told.proofs.same_places.Tie as tie
 
 module _ (a b : List ℕ) (i : ℕ) where
   differ : i < 12 → (getD a i 0 ≡ getD b i 0 → ⊥) → false ≡ same a b
