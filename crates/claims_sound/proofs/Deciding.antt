@@ -1,5 +1,5 @@
 -- The tests of the code decide whether claims are sound: a barring set within a waiting set of boards has boards only,
--- and bytes that are all 0 hold no claims.
+-- and where no board is barred the waiting set decides.
 use mathlib.Core.Path.{_≡_, refl, sym, ap, _∙_}
 use mathlib.Core.Bool.{Bool, true, false, _&&_}
 use mathlib.Core.List.{List}
@@ -8,16 +8,14 @@ use native.Mathlib.Numerals.{add-one}
 use native.Mathlib.Omega.{arith}
 use borrow.Author.Tests.{eq-eqb, eqb-true}
 use lib.Dec.{eqb}
-use lib.ListN.{length, getD, length-replicate, getD-replicate}
-use lib.Seq.{ext-getD}
+use lib.ListN.{length, getD}
 use Rattle.base.specs.Folds.{below, implies}
-use Rattle.base.proofs.Tests.{same-test, and-l, and-r, and-of, and-left, and-right, and-true}
-use Rattle.base.proofs.Folds.{below-at, below-fails}
+use Rattle.base.proofs.Tests.{same-test, and-l, and-r, and-of, and-left, and-right, and-true, implies-of}
+use Rattle.base.proofs.Folds.{below-at, below-of, below-fails}
 use Rattle.arbiter.specs.Boards.{places, member, empty, subset, boardsOnly}
-use Rattle.arbiter.specs.Claims.{Claims, waiting, barring, noClaims, soundBarring, soundClaims}
+use Rattle.arbiter.specs.Claims.{Claims, waiting, barring, soundBarring, soundClaims}
 use Rattle.claims.specs.ClaimBytes.{claimsAt}
-use Rattle.arbiter.proofs.Boards.{subset-empty, boards-subset}
-use Rattle.arbiter.proofs.Claims.{claims-test, none-sound}
+use Rattle.arbiter.proofs.Boards.{subset-empty, boards-empty, boards-subset}
 use Rattle.claims.proofs.ClaimBytes.{read-set-is, length-claims, barring-is}
 
 -- b is the barring set of board i, and w the waiting set
@@ -85,22 +83,23 @@ module _ (n : ℕ) (c : Claims) where
   unfolding soundClaims firstSound
   sound-all l h = rw (h, eq-eqb (length c) (suc n) l)
 
--- bytes that are all 0 hold no claims
-pub clear-sound : (n at : ℕ) (s : List ℕ) → n < places → at + 32 ≤ length s → below (2 * (n + 1)) (λ i. eqb (getD s (at + i) 0) 0) ≡ true
-    → true ≡ soundClaims n (claimsAt n at s)
-clear-sound n at s fits room h = sym (ap (soundClaims n) same ∙ claims-test n (noClaims n) none-sound)
-  where
-    zero-at : (k : ℕ) → k < 2 * (n + 1) → getD s (at + k) 0 ≡ 0
-    zero-at k l = eqb-true _ _ (below-at (λ i. eqb (getD s (at + i) 0) 0) (2 * (n + 1)) h k l)
+-- where the bytes of the barring sets are all 0 no board is barred, and the waiting set decides
+module _ (n at : ℕ) (s : List ℕ) (fits : n < places) (room : at + 32 ≤ length s) (h : below 30 (λ i. eqb (getD s (at + 2 + i) 0) 0) ≡ true) where
+  zero-at : (k : ℕ) → k < 30 → getD s (at + 2 + k) 0 ≡ 0
+  zero-at k l = eqb-true _ _ (below-at (λ i. eqb (getD s (at + 2 + i) 0) 0) 30 h k l)
 
-    none : (i : ℕ) → i ≤ n → barring (claimsAt n at s) i ≡ 0
-    none i l =
-        let next : at + 2 * i + 1 ≡ at + (2 * i + 1) = omega arith in
-        let low : getD s (at + 2 * i + 1) 0 ≡ 0 = ap (λ (k : ℕ). getD s k 0) next ∙ zero-at (2 * i + 1) (omega arith) in
-        let high : getD s (at + 2 * i) 0 ≡ 0 = zero-at (2 * i) (omega arith) in
-        sym (barring-is n at i s fits l) ∙ read-set-is (at + 2 * i) s (omega (arith, fits)) ∙ omega (arith, low, high)
+  none : (i : ℕ) → i < n → barring (claimsAt n at s) (suc i) ≡ empty
+  none i l =
+      let high : getD s (at + 2 * suc i) 0 ≡ 0 = ap (λ (k : ℕ). getD s k 0) (let e : at + 2 * suc i ≡ at + 2 + 2 * i = omega arith in e) ∙ zero-at (2 * i) (omega (arith, fits)) in
+      let low : getD s (at + 2 * suc i + 1) 0 ≡ 0 = ap (λ (k : ℕ). getD s k 0) (let e : at + 2 * suc i + 1 ≡ at + 2 + (2 * i + 1) = omega arith in e) ∙ zero-at (2 * i + 1) (omega (arith, fits)) in
+      sym (barring-is n at (suc i) s fits (omega arith)) ∙ read-set-is (at + 2 * suc i) s (omega (arith, fits)) ∙ omega (arith, low, high)
 
-    same : claimsAt n at s ≡ noClaims n
-    same =
-        ext-getD empty (claimsAt n at s) (noClaims n) (length-claims n at s ∙ sym (length-replicate (suc n) empty))
-        (λ i l. none i (omega (arith, length-claims n at s)) ∙ sym (getD-replicate (suc n) i empty empty (omega (arith, length-claims n at s))))
+  free : (i : ℕ) → i < n → soundBarring n (claimsAt n at s) (suc i) ≡ true
+  unfolding soundBarring
+  free i l = rw (none i l, boards-empty n, subset-empty (waiting (claimsAt n at s))) (implies-of (member (waiting (claimsAt n at s)) (suc i)) true (λ e. refl))
+
+  pub unbarred : boardsOnly n (waiting (claimsAt n at s)) ≡ soundClaims n (claimsAt n at s)
+  unfolding soundClaims
+  unbarred =
+      rw (eq-eqb (length (claimsAt n at s)) (suc n) (length-claims n at s), below-of (λ i. soundBarring n (claimsAt n at s) (suc i)) n free)
+      (sym (and-true (boardsOnly n (waiting (claimsAt n at s)))))
