@@ -10,7 +10,7 @@ use protocol::Reply;
 use refusals::Refusal;
 
 // A step on a record whose soundness is known.
-pub fn judged(rec: &mut [u8], sound: bool, step: Step) -> Reply
+fn judged(rec: &mut [u8], sound: bool, step: Step) -> Reply
     requires { ⌜ sound ≡ soundBytes (now rec) ⌝ }
     ensures reply { λ r. ⌜ r ≡ reply (outcome (Reading.Step step) (now (rec .entry))) ⌝ }
     ensures buffer { λ r. ⌜ now (rec .exit) ≡ recordAfter (now (rec .entry)) (outcome (Reading.Step step) (now (rec .entry))) ⌝ }
@@ -38,11 +38,6 @@ pub fn step(rec: &mut [u8], bytes: &[u8]) -> Reply
     ensures reply { λ r. ⌜ r ≡ stepTold (now (rec .entry)) (now (bytes .entry)) ⌝ }
     ensures buffer { λ r. ⌜ now (rec .exit) ≡ stepAfter (now (rec .entry)) (now (bytes .entry)) ⌝ }
 {
-    match reader::read(bytes) {
-        Reading::Refused(refusal) => Reply::Refused(refusal),
-        Reading::Step(step) => {
-            let sound = soundness::sound(rec);
-            judged(rec, sound, step)
-        }
-    }
+    let sound = soundness::sound(rec);
+    next(rec, sound, bytes)
 }
