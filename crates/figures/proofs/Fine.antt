@@ -1,20 +1,20 @@
 -- A cell by its bytes: the conjuncts of the definition in the order of the code, with marks of 0 or 1 taken as numbers.
-use Prim.Native.Nat.{ℕ, _+_, _≤_, _<_}
+use Prim.Native.Nat.{ℕ, _+_, _*_, _≤_, _<_}
 use native.Mathlib.Omega.{arith}
-use mathlib.Core.Path.{_≡_, sym, ap, _∙_}
+use mathlib.Core.Path.{_≡_, refl, sym, ap, _∙_}
 use mathlib.Core.Logic.{⊎-elim}
-use mathlib.Core.Bool.{Bool, true, _&&_, and-comm, and-assoc}
+use mathlib.Core.Bool.{Bool, true, false, not, _&&_, and-comm, and-assoc}
 use mathlib.Core.List.{List}
 use lib.ListN.{length, getD}
 use lib.Dec.{eqb, leb, ltb}
-use borrow.Author.Tests.{eq-eqb, eqb-true, le-leb, leb-true, ltb-true, lt-ltb}
+use borrow.Author.Tests.{eq-eqb, eqb-true, le-leb, leb-true, ltb-true, lt-ltb, not-false}
 use Rattle.base.specs.Folds.{one, implies}
 use Rattle.base.proofs.Tests.{and-l, and-r, and-of, and-under, same-test, lt-or-le, implied, implies-of, eqb-one}
 use Rattle.layout.specs.Layout.{part}
 use Rattle.protocol.specs.Sound.{soundCell}
 use Rattle.record.specs.Record.{words}
 use Rattle.record.proofs.Bytes.{words-eight, cell-read, cell-formed}
-use Rattle.figures.specs.Fine.{marksFine, cellFine}
+use Rattle.figures.specs.Fine.{marksFine, cellFine, marked, weightAt}
 
 -- the conjuncts of a cell in the order of the code
 cell-order : (o v e t c : Bool) → e ≡ true → (o && v && (e && t && c)) ≡ (o && v && c && t)
@@ -62,3 +62,15 @@ module _ (s : List ℕ) (at : ℕ) where
       (λ i. cell-formed s at i && soundCell (cell-read s at i))
       ∙ and-under (ltb o 2 && ltb v 2) (e && implies (eqb v 1) (ltb 0 (p + one (eqb o 1))) && c) (e && leb v (p + o) && c) (λ q i. e && valid p o v q i && c)
       ∙ cell-order (ltb o 2) (ltb v 2) e (leb v (p + o)) c (eq-eqb (length (words .read (part (at + 3) 32 s))) 8 (words-eight (part (at + 3) 32 s)))
+
+  -- a cell without a mark is fine, and its plain tokens are all that it weighs
+  pub unmarked : marked s at ≡ false → (cellFine s at ≡ true) × (weightAt s at ≡ getD s at 0)
+  unfolding marked
+  unmarked h =
+      let p : ℕ = getD s at 0 in
+      let o : ℕ = getD s (at + 1) 0 in
+      let v : ℕ = getD s (at + 2) 0 in
+      let none : o + v ≡ 0 = eqb-true (o + v) 0 (not-false (eqb (o + v) 0) h) in (
+        cell-is ∙ and-of (marksFine o v) (leb v (p + o)) (sym (marks-is true o v (λ z. (omega (arith, none), omega (arith, none))) (λ y z. refl))) (le-leb v (p + o) (omega (arith, none))),
+        omega (arith, none),
+      )

@@ -2,7 +2,7 @@
 ghost use mathlib.Core.Path.{_≡_};
 ghost use Prim.Native.Nat.{_+_, _≤_};
 ghost use lib.ListN.{length};
-ghost use Rattle.figures.specs.Fine.{marksFine, cellFine, weightAt};
+ghost use Rattle.figures.specs.Fine.{marksFine, cellFine, marked, weightAt};
 use base::both;
 use base::wide;
 
@@ -19,6 +19,14 @@ pub fn marks_fine(owner: u8, valid: u8) -> bool
     ensures { λ r. ⌜ r ≡ marksFine owner valid ⌝ }
 {
     both(owner <= valid, valid < 2)
+}
+
+// Whether the cell at a place has a mark, the owner's or the valid one.
+pub fn marked(rec: &[u8], at: usize) -> bool
+    requires { ⌜ at + 35 ≤ length (now rec) ⌝ }
+    ensures { λ r. ⌜ r ≡ marked (now (rec .entry)) at ⌝ }
+{
+    wide(rec[at + 1]) + wide(rec[at + 2]) != 0
 }
 
 // Whether the cell at a place is formed and sound.

@@ -77,10 +77,6 @@ pub resting-next : (s : List ℕ) (at c : ℕ) → resting s at (c + 1) ≡ weig
 unfolding resting
 resting-next s at c = sum-next (λ j. weightAt s (at + 35 * j)) c
 
-pub resting-most : (s : List ℕ) → Bytes s → (at m : ℕ) → resting s at m ≤ m * 16712190
-unfolding resting
-resting-most s h at m = sum-most (λ j. weightAt s (at + 35 * j)) 16712190 m (λ j l. weight-most s h (at + 35 * j))
-
 -- ---- a sum of weights is a sum of tokens and a sum of owners
 
 sums-split : (w f g : ℕ → ℕ) (k : ℕ) → ((i : ℕ) → i < k → w i ≡ f i + 65536 * g i) → sumBelow k w ≡ sumBelow k f + 65536 * sumBelow k g

@@ -13,6 +13,7 @@ ghost use Rattle.soundness.specs.Deciding.{flying, resting, blockFine};
 use base::both;
 use base::wide;
 use figures::cell_fine;
+use figures::marked;
 use figures::weight;
 use message_figures::message_fine;
 use record::sizes;
@@ -23,27 +24,26 @@ pub struct Tally {
     pub weight: u32,
 }
 
-// The first cells of a block.
+// The first cells of a block. Most have no mark, and nothing of those can be wrong.
 fn cells(rec: &[u8], at: usize, count: usize) -> Tally
     requires { ⌜ (count ≤ 16) × (at + 560 ≤ length (now rec)) ⌝ }
     ensures fine { λ r. ⌜ r .fine ≡ below count (λ c. cellFine (now (rec .entry)) (at + 35 * c)) ⌝ }
     ensures weight { λ r. ⌜ (r .weight ≡ resting (now (rec .entry)) at count) × (r .weight ≤ 267395040) ⌝ }
 {
     let mut fine = true;
-    let mut plain: u32 = 0;
-    let mut owners: u32 = 0;
+    let mut sum: u32 = 0;
     let mut c: usize = 0;
     while c < count {
         let place = at + 35 * c;
-        fine = both(cell_fine(rec, place), fine);
-        plain = wide(rec[place]) + plain;
-        owners = wide(rec[place + 1]) + owners;
+        if marked(rec, place) {
+            fine = both(cell_fine(rec, place), fine);
+            sum = weight(rec, place) + sum;
+        } else {
+            sum = wide(rec[place]) + sum;
+        }
         c += 1;
     }
-    Tally {
-        fine,
-        weight: plain + owners * 65537,
-    }
+    Tally { fine, weight: sum }
 }
 
 // Whether the messages are fine; where they are, each block's weight in them is added to its sum.
