@@ -52,6 +52,22 @@ impl Coverage {
         self.counts[kind][place] += 1;
     }
 
+    /// Adds what another part of the comparison reached.
+    pub fn add(&mut self, other: &Coverage) {
+        for (mine, theirs) in self.counts.iter_mut().flatten().zip(other.counts.iter().flatten()) {
+            *mine += theirs;
+        }
+        self.steps += other.steps;
+        self.lists += other.lists;
+        self.most_in_flight = self.most_in_flight.max(other.most_in_flight);
+        self.flat_loads += other.flat_loads;
+        self.damaged += other.damaged;
+        self.damaged_sound += other.damaged_sound;
+        self.runs += other.runs;
+        self.run_steps += other.run_steps;
+        self.letters += other.letters;
+    }
+
     pub fn print(&self) {
         println!("{} steps in {} lists; most messages in flight {}", self.steps, self.lists, self.most_in_flight);
         println!("{} loads answered as the flat memory does; {} state letters", self.flat_loads, self.letters);

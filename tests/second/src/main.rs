@@ -5,7 +5,9 @@ mod compare;
 
 use compare::replay::replay;
 use compare::Harness;
+use second::coverage::Coverage;
 use std::process::ExitCode;
+use std::thread;
 use std::time::Instant;
 
 struct Options {
@@ -30,27 +32,45 @@ fn options() -> Result<Options, String> {
     Ok(options)
 }
 
-fn compare(options: &Options) -> Result<(), String> {
-    let long = options.steps >= 2_000_000;
-    let mut harness = Harness::new(options.seed);
-    let mut stage = |name: &str, part: &mut dyn FnMut(&mut Harness) -> Result<(), String>| {
+/// A part of the comparison, with its name.
+type Stage<'a> = (&'a str, &'a (dyn Fn(&mut Harness) -> Result<(), String> + Sync));
+
+/// Runs stages one after the other, and tells what they reached.
+fn run(seed: u64, stages: &[Stage]) -> Result<Coverage, String> {
+    let mut harness = Harness::new(seed);
+    for (name, stage) in stages {
         let start = Instant::now();
-        part(&mut harness).map_err(|case| format!("# {name}, seed {}\n{case}", options.seed))?;
+        stage(&mut harness).map_err(|case| format!("# {name}, seed {seed}\n{case}"))?;
         println!("{name:>14}: alike, {:.1} s", start.elapsed().as_secs_f64());
-        Ok::<(), String>(())
-    };
-    stage("examples", &mut Harness::examples)?;
-    stage("lengths", &mut Harness::lengths)?;
-    stage("openings", &mut Harness::openings)?;
-    stage("all states", &mut |harness| harness.all_states(long))?;
-    stage("torn steps", &mut Harness::torn)?;
-    stage("short buffers", &mut Harness::short_buffers)?;
-    stage("damage", &mut |harness| harness.damage(long))?;
-    stage("runs", &mut |harness| harness.runs(if long { 60_000 } else { 3000 }))?;
-    stage("wire", &mut |harness| harness.wire(if long { 3_000_000 } else { 200_000 }))?;
-    stage("lists", &mut |harness| harness.lists(options.steps))?;
-    harness.coverage.print();
-    let gaps = harness.coverage.gaps();
+    }
+    Ok(harness.coverage)
+}
+
+/// The lists, and beside them all the rest.
+fn compare(options: &Options) -> Result<(), String> {
+    let &Options { seed, steps, .. } = options;
+    let long = steps >= 2_000_000;
+    let lists: [Stage; 1] = [("lists", &|harness| harness.lists(steps))];
+    let rest: [Stage; 9] = [
+        ("examples", &Harness::examples),
+        ("lengths", &Harness::lengths),
+        ("openings", &Harness::openings),
+        ("all states", &|harness| harness.all_states(long)),
+        ("torn steps", &Harness::torn),
+        ("short buffers", &Harness::short_buffers),
+        ("damage", &|harness| harness.damage(long)),
+        ("runs", &|harness| harness.runs(if long { 60_000 } else { 3000 })),
+        ("wire", &|harness| harness.wire(if long { 3_000_000 } else { 200_000 })),
+    ];
+    let (of_lists, of_rest) = thread::scope(|scope| {
+        let of_lists = scope.spawn(|| run(seed, &lists));
+        let of_rest = run(seed, &rest);
+        (of_lists.join().expect("the lists end with a result"), of_rest)
+    });
+    let mut coverage = of_rest?;
+    coverage.add(&of_lists?);
+    coverage.print();
+    let gaps = coverage.gaps();
     if gaps.is_empty() {
         Ok(())
     } else {
