@@ -1,16 +1,23 @@
 // Step records: the body of each kind's record, read. specs/Body.antt says what each gives for every bytes.
 ghost use mathlib.Core.Path.{_≡_};
+ghost use mathlib.Core.List.{[], _∷_};
 ghost use Prim.Native.Nat.{ℕ, _+_, _%_, _≤_};
 ghost use lib.Dec.{ltb};
 ghost use lib.ListN.{length, drop};
-ghost use Rattle.kinds.specs.Kinds.{value};
-ghost use Rattle.bodies.specs.Body.{stands, readBody};
+ghost use Rattle.refusals.specs.declared.Refusal.the-variants.{Torn};
+ghost use Rattle.kinds.specs.declared.Reading.the-variants.{Refused};
+ghost use Rattle.kinds.specs.Kinds.{kindOf, value};
+ghost use Rattle.bodies.specs.Body.{stands, readAs, readBody};
 ghost use Rattle.bodies.specs.Seen.{byteField, Seen};
 use base::both;
 use base::wide;
-use kinds::Reading;
 use kinds::Step;
-use refusals::Refusal;
+
+// What the fields of a body tell: whether they stand and fill it, and the step that they tell where they do. Both are handed on at one end, so that a step stays in registers.
+pub struct Parsed {
+    pub stands: bool,
+    pub step: Step,
+}
 
 // The number of the field of one byte with this tag, where it stands at a place; a number above 255 where anything else does.
 // Tag and length are taken off the four bytes as one number.
@@ -36,54 +43,64 @@ fn low(x: u32) -> u8
     (x % 256) as u8
 }
 
+// No step.
+pub fn nothing() -> Parsed
+    ensures { λ r. ⌜ readAs r ≡ Refused Torn ⌝ }
+{
+    Parsed {
+        stands: false,
+        step: Step::Deliver { position: 0 },
+    }
+}
+
 // A load, from its body.
-pub fn read_load(body: &[u8]) -> Reading
-    ensures { λ r. ⌜ r ≡ readBody 0x10 (now (body .entry)) ⌝ }
+pub fn read_load(body: &[u8]) -> Parsed
+    ensures { λ r. ⌜ readAs r ≡ readBody 0x10 (now (body .entry)) ⌝ }
 {
     if body.len() != 12 {
-        return Reading::Refused(Refusal::Torn);
+        return nothing();
     }
     let c = field(body, 0, 0x01);
     let b = field(body, 4, 0x02);
     let w = field(body, 8, 0x03);
-    if both(c < 256, both(b < 256, w < 256)) {
-        return Reading::Step(Step::Load {
+    Parsed {
+        stands: both(c < 256, both(b < 256, w < 256)),
+        step: Step::Load {
             component: low(c),
             block: low(b),
             word: low(w),
-        });
+        },
     }
-    Reading::Refused(Refusal::Torn)
 }
 
 // A store, from its body.
-pub fn read_store(body: &[u8]) -> Reading
-    ensures { λ r. ⌜ r ≡ readBody 0x11 (now (body .entry)) ⌝ }
+pub fn read_store(body: &[u8]) -> Parsed
+    ensures { λ r. ⌜ readAs r ≡ readBody 0x11 (now (body .entry)) ⌝ }
 {
     if body.len() != 19 {
-        return Reading::Refused(Refusal::Torn);
+        return nothing();
     }
     let c = field(body, 0, 0x01);
     let b = field(body, 4, 0x02);
     let w = field(body, 8, 0x03);
     let v = value_stands(body, 12);
-    if both(c < 256, both(b < 256, both(w < 256, v))) {
-        return Reading::Step(Step::Store {
+    Parsed {
+        stands: both(c < 256, both(b < 256, both(w < 256, v))),
+        step: Step::Store {
             component: low(c),
             block: low(b),
             word: low(w),
             value: numbers::number_at(body, 15),
-        });
+        },
     }
-    Reading::Refused(Refusal::Torn)
 }
 
 // A send, from its body.
-pub fn read_send(body: &[u8]) -> Reading
-    ensures { λ r. ⌜ r ≡ readBody 0x12 (now (body .entry)) ⌝ }
+pub fn read_send(body: &[u8]) -> Parsed
+    ensures { λ r. ⌜ readAs r ≡ readBody 0x12 (now (body .entry)) ⌝ }
 {
     if body.len() != 24 {
-        return Reading::Refused(Refusal::Torn);
+        return nothing();
     }
     let c = field(body, 0, 0x01);
     let b = field(body, 4, 0x02);
@@ -92,53 +109,57 @@ pub fn read_send(body: &[u8]) -> Reading
     let o = field(body, 16, 0x07);
     let d = field(body, 20, 0x08);
     let marks = both(p < 256, both(o < 2, d < 2));
-    if both(c < 256, both(b < 256, both(t < 256, marks))) {
-        return Reading::Step(Step::Send {
+    Parsed {
+        stands: both(c < 256, both(b < 256, both(t < 256, marks))),
+        step: Step::Send {
             component: low(c),
             block: low(b),
             target: low(t),
             plain: low(p),
             owner: o == 1,
             data: d == 1,
-        });
+        },
     }
-    Reading::Refused(Refusal::Torn)
 }
 
 // A deliver, from its body.
-pub fn read_deliver(body: &[u8]) -> Reading
-    ensures { λ r. ⌜ r ≡ readBody 0x13 (now (body .entry)) ⌝ }
+pub fn read_deliver(body: &[u8]) -> Parsed
+    ensures { λ r. ⌜ readAs r ≡ readBody 0x13 (now (body .entry)) ⌝ }
 {
     if body.len() != 4 {
-        return Reading::Refused(Refusal::Torn);
+        return nothing();
     }
     let i = field(body, 0, 0x09);
-    if i < 256 {
-        return Reading::Step(Step::Deliver { position: low(i) });
+    Parsed {
+        stands: i < 256,
+        step: Step::Deliver { position: low(i) },
     }
-    Reading::Refused(Refusal::Torn)
+}
+
+// The step of a kind that has a component and a block alone.
+fn claim(kind: u8, component: u8, block: u8) -> Step
+    requires { ⌜ (0x14 ≤ kind) × (kind ≤ 0x16) ⌝ }
+    ensures { λ r. ⌜ r ≡ kindOf kind .step (kind ∷ component ∷ block ∷ []) ⌝ }
+{
+    match kind {
+        0x14 => Step::Raise { component, block },
+        0x15 => Step::Lower { component, block },
+        _ => Step::Forward { component, block },
+    }
 }
 
 // A raise, a lower or a forward: they have the same fields.
-pub fn read_claim(kind: u8, body: &[u8]) -> Reading
+pub fn read_claim(kind: u8, body: &[u8]) -> Parsed
     requires { ⌜ (0x14 ≤ kind) × (kind ≤ 0x16) ⌝ }
-    ensures { λ r. ⌜ r ≡ readBody kind (now (body .entry)) ⌝ }
+    ensures { λ r. ⌜ readAs r ≡ readBody kind (now (body .entry)) ⌝ }
 {
     if body.len() != 8 {
-        return Reading::Refused(Refusal::Torn);
+        return nothing();
     }
     let c = field(body, 0, 0x01);
     let b = field(body, 4, 0x02);
-    if both(c < 256, b < 256) {
-        let component = low(c);
-        let block = low(b);
-        return Reading::Step(
-            match kind {
-                0x14 => Step::Raise { component, block },
-                0x15 => Step::Lower { component, block },
-                _ => Step::Forward { component, block },
-            },
-        );
+    Parsed {
+        stands: both(c < 256, b < 256),
+        step: claim(kind, low(c), low(b)),
     }
-    Reading::Refused(Refusal::Torn)
 }

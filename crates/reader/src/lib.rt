@@ -1,13 +1,14 @@
 // Step records: the reader. specs/Reader.antt says what it gives for every bytes.
 ghost use mathlib.Core.Path.{_≡_};
-ghost use Rattle.bodies.specs.Body.{readBody};
+ghost use Rattle.bodies.specs.Body.{readAs, readBody};
 ghost use Rattle.reader.specs.Reader.{readRecord};
+use bodies::Parsed;
 use kinds::Reading;
 use refusals::Refusal;
 
 // The step of the kind with this kind byte, from its body.
-fn read_body(kind: u8, body: &[u8]) -> Reading
-    ensures { λ r. ⌜ r ≡ readBody kind (now (body .entry)) ⌝ }
+fn read_body(kind: u8, body: &[u8]) -> Parsed
+    ensures { λ r. ⌜ readAs r ≡ readBody kind (now (body .entry)) ⌝ }
 {
     match kind {
         0x10 => bodies::read_load(body),
@@ -15,7 +16,19 @@ fn read_body(kind: u8, body: &[u8]) -> Reading
         0x12 => bodies::read_send(body),
         0x13 => bodies::read_deliver(body),
         0x14..=0x16 => bodies::read_claim(kind, body),
-        _ => Reading::Refused(Refusal::Torn),
+        _ => bodies::nothing(),
+    }
+}
+
+// What parsed bytes read as.
+fn reading(parsed: Parsed) -> Reading
+    ensures { λ r. ⌜ r ≡ readAs parsed ⌝ }
+{
+    let step = parsed.step;
+    if parsed.stands {
+        Reading::Step(step)
+    } else {
+        Reading::Refused(Refusal::Torn)
     }
 }
 
@@ -29,5 +42,5 @@ pub fn read(bytes: &[u8]) -> Reading
     if numbers::number(&bytes[1..3]) as usize != bytes.len() - 3 {
         return Reading::Refused(Refusal::Torn);
     }
-    read_body(bytes[0], &bytes[3..])
+    reading(read_body(bytes[0], &bytes[3..]))
 }

@@ -1,5 +1,5 @@
 -- `bodies::read_load` meets its contract: three fields, which fill the body.
-use mathlib.Core.Path.{refl, _∙_}
+use mathlib.Core.Path.{_∙_}
 use mathlib.Core.Bool.{_&&_}
 use lib.Dec.{ltb}
 use Rattle.kinds.specs.Kinds.{kindOf}
@@ -9,9 +9,12 @@ use borrow.Author.Needs.{needs}
 use Rattle.bodies.proofs.read_load.Statement.{statement}
 use Rattle.bodies.proofs.read_load.Tie as tie
 
+nothing-requires : tie.Need-nothing-requires
+nothing-requires c κs = search needs
+
 returns : tie.Need-returns
 unfolding kindOf
-returns c = other-length 0x10 _ (c .if1 .taken)
+returns c = c .nothing .ensures ∙ other-length 0x10 _ (c .before .if1 .taken)
 
 field-requires : tie.Need-field-requires
 field-requires c κs = search needs
@@ -39,8 +42,7 @@ low-requires-3 c κs = search needs
 
 returns-2 : tie.Need-returns-2
 returns-2 c =
-    let at = c .before .before .before in
-    let all = at .before in
+    let all = c .before .before .before in
     let rest = all .before in
     let w = rest .before in
     let b = w .before in
@@ -49,26 +51,12 @@ returns-2 c =
     let s = len .before .before in
     load-reads (s .args .body .now) (f .field .result) (b .field2 .result) (f .field .ensures) (b .field2 .ensures) (w .field3 .result) (w .field3 .ensures) (c .before .before .low .result) (c .before .low2 .result) (c .low3 .result) (c .before .before .low .ensures) (c .before .low2 .ensures) (c .low3 .ensures)
     (all .both2 .result) (len .if1 .left) (all .both2 .ensures ∙ (λ i. ltb (f .field .result) 256 && rest .both .ensures i))
-    .0 (at .if2 .taken)
-
-returns-3 : tie.Need-returns-3
-returns-3 c =
-    let at = c in
-    let all = at .before in
-    let rest = all .before in
-    let w = rest .before in
-    let b = w .before in
-    let f = b .before in
-    let len = f .before in
-    let s = len .before .before in
-    load-reads (s .args .body .now) (f .field .result) (b .field2 .result) (f .field .ensures) (b .field2 .ensures) (w .field3 .result) (w .field3 .ensures) _ _ _ refl refl refl
-    (all .both2 .result) (len .if1 .left) (all .both2 .ensures ∙ (λ i. ltb (f .field .result) 256 && rest .both .ensures i))
-    .1 (at .if2 .left)
 
 pub read-load-spec : {M : Type 1} → statement M
 read-load-spec =
     tie.close
     (tie.spec
+    nothing-requires
     returns
     field-requires
     field-requires-2
@@ -78,5 +66,4 @@ read-load-spec =
     low-requires
     low-requires-2
     low-requires-3
-    returns-2
-    returns-3)
+    returns-2)

@@ -1,5 +1,5 @@
 -- `bodies::read_send` meets its contract: six fields, which fill the body.
-use mathlib.Core.Path.{refl, _∙_}
+use mathlib.Core.Path.{_∙_}
 use mathlib.Core.Bool.{_&&_}
 use lib.Dec.{ltb}
 use Rattle.kinds.specs.Kinds.{kindOf}
@@ -9,9 +9,12 @@ use borrow.Author.Needs.{needs}
 use Rattle.bodies.proofs.read_send.Statement.{statement}
 use Rattle.bodies.proofs.read_send.Tie as tie
 
+nothing-requires : tie.Need-nothing-requires
+nothing-requires c κs = search needs
+
 returns : tie.Need-returns
 unfolding kindOf
-returns c = other-length 0x12 _ (c .if1 .taken)
+returns c = c .nothing .ensures ∙ other-length 0x12 _ (c .before .if1 .taken)
 
 field-requires : tie.Need-field-requires
 field-requires c κs = search needs
@@ -60,8 +63,7 @@ low-requires-4 c κs = search needs
 
 returns-2 : tie.Need-returns-2
 returns-2 c =
-    let at = c .before .before .before .before in
-    let all = at .before in
+    let all = c .before .before .before .before in
     let four = all .before in
     let three = four .before in
     let two = three .before in
@@ -79,35 +81,12 @@ returns-2 c =
     (c .before .before .before .low .result) (c .before .before .low2 .result) (c .before .low3 .result) (c .low4 .result) (two .both2 .result) (all .both5 .result) (len .if1 .left) (c .before .before .before .low .ensures) (c .before .before .low2 .ensures) (c .before .low3 .ensures) (c .low4 .ensures)
     (two .both2 .ensures ∙ (λ i. ltb (p .field4 .result) 256 && one .both .ensures i))
     (all .both5 .ensures ∙ (λ i. ltb (f .field .result) 256 && (four .both4 .ensures ∙ (λ j. ltb (b .field2 .result) 256 && three .both3 .ensures j)) i))
-    .0 (at .if2 .taken)
-
-returns-3 : tie.Need-returns-3
-returns-3 c =
-    let at = c in
-    let all = at .before in
-    let four = all .before in
-    let three = four .before in
-    let two = three .before in
-    let one = two .before in
-    let d = one .before in
-    let o = d .before in
-    let p = o .before in
-    let t = p .before in
-    let b = t .before in
-    let f = b .before in
-    let len = f .before in
-    let s = len .before .before in
-    send-reads (s .args .body .now) (f .field .result) (b .field2 .result) (f .field .ensures) (b .field2 .ensures)
-    (t .field3 .result) (p .field4 .result) (o .field5 .result) (d .field6 .result) (t .field3 .ensures) (p .field4 .ensures) (o .field5 .ensures) (d .field6 .ensures)
-    _ _ _ _ (two .both2 .result) (all .both5 .result) (len .if1 .left) refl refl refl refl
-    (two .both2 .ensures ∙ (λ i. ltb (p .field4 .result) 256 && one .both .ensures i))
-    (all .both5 .ensures ∙ (λ i. ltb (f .field .result) 256 && (four .both4 .ensures ∙ (λ j. ltb (b .field2 .result) 256 && three .both3 .ensures j)) i))
-    .1 (at .if2 .left)
 
 pub read-send-spec : {M : Type 1} → statement M
 read-send-spec =
     tie.close
     (tie.spec
+    nothing-requires
     returns
     field-requires
     field-requires-2
@@ -124,5 +103,4 @@ read-send-spec =
     low-requires-2
     low-requires-3
     low-requires-4
-    returns-2
-    returns-3)
+    returns-2)

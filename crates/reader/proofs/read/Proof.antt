@@ -1,5 +1,5 @@
 -- `reader::read` meets its contract: the frame is tested, and the body read.
-use mathlib.Core.Path.{_≡_}
+use mathlib.Core.Path.{_≡_, _∙_}
 use mathlib.Core.List.{List}
 use Prim.Native.Nat.{ℕ, _≤_, _<_, _-_}
 use lib.ListN.{length, getD, take, drop}
@@ -68,10 +68,13 @@ part-read-body-end c = search needs
 read-body-requires : tie.Need-read-body-requires
 read-body-requires c κs = search needs
 
+reading-requires : tie.Need-reading-requires
+reading-requires c κs = search needs
+
 returns-3 : tie.Need-returns-3
 returns-3 c =
-    let framed = c .before .before .before in
-    whole _ _ (framed .before .before .before .if1 .left) (framed .before .number .ensures) (framed .if2 .left) (c .read-body .ensures)
+    let framed = c .before .before .before .before in
+    whole _ _ (framed .before .before .before .if1 .left) (framed .before .number .ensures) (framed .if2 .left) (c .reading .ensures ∙ c .before .read-body .ensures)
 
 pub read-spec : {M : Type 1} → statement M
 read-spec =
@@ -90,4 +93,5 @@ read-spec =
     part-read-body-start
     part-read-body-end
     read-body-requires
+    reading-requires
     returns-3)

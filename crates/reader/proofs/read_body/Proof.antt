@@ -2,6 +2,7 @@
 use mathlib.Core.Path.{sym, ap, _∙_}
 use Prim.Native.Nat.{ℕ}
 use native.Mathlib.Omega.{arith}
+use mathlib.Core.Logic.{⊎-elim}
 use Rattle.bodies.specs.Body.{readBody}
 use Rattle.bodies.proofs.ByKind.{no-kind}
 use borrow.Author.Needs.{needs}
@@ -23,6 +24,9 @@ read-deliver-requires c κs = search needs
 read-claim-requires : tie.Need-read-claim-requires
 read-claim-requires c κs = search needs
 
+nothing-requires : tie.Need-nothing-requires
+nothing-requires c κs = search needs
+
 returns : tie.Need-returns
 returns c = c .read-load .ensures ∙ ap (λ (k : ℕ). readBody k (c .before .before .before .args .body .now)) (sym (c .before .match .keys1))
 
@@ -39,10 +43,10 @@ returns-5 : tie.Need-returns-5
 returns-5 c = search needs
 
 returns-6 : tie.Need-returns-6
-returns-6 c = no-kind (c .before .before .before .args .kind) _ (omega (arith, c .before .match, c .if1))
-
-returns-7 : tie.Need-returns-7
-returns-7 c = no-kind (c .before .before .before .before .args .kind) _ (omega (arith, c .before .before .match, c .before .if1, c .if2))
+returns-6 c = let s = c .before .before .before .before .args in
+    c .nothing .ensures
+    ∙ no-kind (s .kind) _
+    (⊎-elim (λ w. omega (arith, c .before .before .match, w)) (λ w. omega (arith, c .before .before .match, w .0, w .1)) (c .before .if1 .came))
 
 pub read-body-spec : {M : Type 1} → statement M
 read-body-spec =
@@ -53,10 +57,10 @@ read-body-spec =
     read-send-requires
     read-deliver-requires
     read-claim-requires
+    nothing-requires
     returns
     returns-2
     returns-3
     returns-4
     returns-5
-    returns-6
-    returns-7)
+    returns-6)
