@@ -1,5 +1,6 @@
 //! A second implementation of document 01 beside the proved engine: see README.md.
 
+pub mod blind;
 pub mod calls;
 pub mod coverage;
 pub mod engine;

@@ -30,6 +30,16 @@ pub fn of_letter(given: Result<char, Refusal>) -> u64 {
     given.map_or_else(refused, letter)
 }
 
+/// What the blind program gives for a step.
+pub fn of_blind(given: Result<Option<u32>, u32>) -> u64 {
+    given.map_or_else(|number| 1 << 56 | u64::from(number), |answer| answer.map_or(done(0), word))
+}
+
+/// What it gives for a letter.
+pub fn of_blind_letter(given: Result<u8, u32>) -> u64 {
+    given.map_or_else(|number| 1 << 56 | u64::from(number), |byte| letter(byte.into()))
+}
+
 /// A result in words, for a person.
 pub fn say(result: u64) -> String {
     let number = result as u32;

@@ -5,7 +5,8 @@ use second::calls::{byte_difference, hex, ENGINES};
 use second::coverage::{kind_of, Coverage, LETTER};
 use second::lists::Lists;
 use second::model::{self, Answer, FlatMemory, Rack, Step};
-use second::{record, reply};
+use second::{blind, record, reply};
+use std::collections::BTreeSet;
 
 impl Harness {
     pub fn lists(&mut self, steps: u64) -> Result<(), String> {
@@ -34,7 +35,7 @@ impl Harness {
             self.coverage.steps += 1;
             self.coverage.count(kind_of(list.made.last().expect("a step was made")), result);
         }
-        Ok(())
+        (0..blocks as usize).try_for_each(|block| list.same_state(block))
     }
 }
 
@@ -46,6 +47,8 @@ struct List {
     seed: u64,
     sizes: Sizes,
     rack: Rack,
+    /// The rack of the program that was written from document 01 alone.
+    blind: blind::Rack,
     flat: FlatMemory,
     /// The buffer as the model has it, and each engine's.
     want: Vec<u8>,
@@ -60,10 +63,12 @@ impl List {
         let (boards, blocks, tokens) = sizes;
         let fill = filled(seed, record::length(blocks as usize) + SPARE);
         let rack = Rack::open(boards, blocks, tokens).expect("sizes in range");
+        let blind = blind::Rack::open(boards, blocks, tokens).map_err(|number| format!("blind: refused {number} at {sizes:?}"))?;
         let mut list = List {
             seed,
             sizes,
             rack,
+            blind,
             flat: FlatMemory::new(blocks),
             want: fill.clone(),
             buffers: vec![fill; ENGINES.len()],
@@ -84,8 +89,13 @@ impl List {
         self.made.push(bytes);
         let reply = read.and_then(|step| self.rack.step(step));
         let want = reply::of_reply(reply);
+        let blind = reply::of_blind(self.blind.step(self.made.last().expect("just pushed")));
+        if blind != want {
+            return Err(self.case(&format!("blind: {} where the model gives {}", reply::say(blind), reply::say(want))));
+        }
         if reply.is_ok() {
             record::encode(&self.rack, &mut self.want);
+            block.map_or(Ok(()), |block| self.same_state(block.into()))?;
         }
         for (i, engine) in ENGINES.iter().enumerate() {
             let bytes = self.made.last().expect("just pushed");
@@ -117,6 +127,20 @@ impl List {
             Some(what) => Err(self.case(&format!("{}: {what}", ENGINES[i].name))),
             None => Ok(()),
         }
+    }
+
+    /// What the blind program has of a block and in flight is what the model has.
+    fn same_state(&self, block: usize) -> Result<(), String> {
+        let mine = &self.rack.blocks[block];
+        let cells = (0..).zip(&mine.cells).all(|(c, cell)| self.blind.cell(c, block) == (cell.plain, cell.owner, cell.valid, cell.words));
+        let list = |set: &BTreeSet<u8>| set.iter().map(|&board| board.into()).collect::<Vec<u32>>();
+        let claims = self.blind.claims(block) == (list(&mine.waiting), mine.barring.values().map(list).collect());
+        let mesh = self.rack.mesh.iter();
+        let mesh = mesh.map(|m| (m.sender.into(), m.target.into(), m.block.into(), m.plain, m.owner, m.data, m.words));
+        if cells && claims && self.blind.mesh().into_iter().eq(mesh) {
+            return Ok(());
+        }
+        Err(self.case(&format!("blind: another state than the model's, block {block} or the mesh")))
     }
 
     /// The record decoded is the model's rack and sound, each block's tokens are the opening's T, and the flat memory gives the words of loads.
@@ -175,6 +199,9 @@ impl List {
         let want = reply::of_letter(self.rack.letter(component, block));
         coverage.letters += 1;
         coverage.count(LETTER, want);
+        if reply::of_blind_letter(self.blind.letter(component, block)) != want {
+            return Err(self.case(&format!("blind: another letter than the model's, component {component}, block {block}")));
+        }
         for (engine, buffer) in ENGINES.iter().zip(&self.buffers) {
             let given = (engine.letter)(buffer, component, block);
             if given != want {

@@ -2,7 +2,7 @@
 
 use super::{filled, Harness, HUGE, SPARE};
 use second::calls::Call;
-use second::record;
+use second::{blind, record, reply};
 
 impl Harness {
     pub fn lengths(&mut self) -> Result<(), String> {
@@ -19,7 +19,11 @@ impl Harness {
                 for tokens in 0..=70 {
                     // The room that is not needed is not lent, so that what is compared stays small.
                     let needed = record::length(blocks.min(32) as usize);
-                    self.call(&buffer[..needed + SPARE], &Call::Open(boards, blocks, tokens))?;
+                    let given = self.call(&buffer[..needed + SPARE], &Call::Open(boards, blocks, tokens))?;
+                    let blind = reply::of_blind(blind::Rack::open(boards, blocks, tokens).map(|_| None));
+                    if given != blind {
+                        return Err(format!("blind: {} at the opening {boards} {blocks} {tokens}", reply::say(blind)));
+                    }
                     let short = if tokens % 8 == 0 { self.rng.below(needed) } else { needed - 1 };
                     self.call(&buffer[..short], &Call::Open(boards, blocks, tokens))?;
                 }
