@@ -1,5 +1,5 @@
--- A step that is of a kind: what is asked of the step and made of it is asked and made of the kind.
-use mathlib.Core.Path.{_≡_, refl, sym, ap, _∙_, subst}
+-- A step by the verdict of the table, and a step that is of a kind by the kind.
+use mathlib.Core.Path.{_≡_, refl, sym, ap, _∙_}
 use mathlib.Core.List.{List}
 use Prim.Native.Nat.{ℕ}
 use Rattle.refusals.specs.declared.Refusal.{Refusal}
@@ -8,22 +8,18 @@ use Rattle.refusals.specs.declared.Check.the-variants.{Pass, Refuse}
 use Rattle.kinds.specs.declared.Step.{Step}
 use Rattle.kinds.specs.declared.Step.the-variants.{Load}
 use Rattle.protocol.specs.declared.Answer.{Answer}
+use Rattle.protocol.specs.declared.Reply.{Reply}
 use Rattle.protocol.specs.declared.Reply.the-variants.{Accepted, Refused}
 use Rattle.protocol.specs.Rules.{check, answer, after, rules}
-use Rattle.protocol.specs.Memory.{reply}
 use Rattle.layout.specs.Number.{Bytes}
 use Rattle.record.specs.Record.{get, put}
-use Rattle.record.specs.Needs.{Whole, Ready}
+use Rattle.record.specs.Needs.{Whole}
 use Rattle.record.proofs.Record.{put-get}
 use Rattle.record.proofs.Leaves.{formed}
-use Rattle.steps.specs.Apply.{recordAfter}
+use Rattle.steps.specs.Apply.{replyTo, leftBy}
 
-pub asked : (s : List ℕ) {t u : Step} → t ≡ u → Ready s × (check (get s) t ≡ Pass) → Ready s × (check (get s) u ≡ Pass)
-asked s e pre = (pre .0, subst (λ (v : Step). check (get s) v ≡ Pass) e (pre .1))
-
-pub made : (s s₁ : List ℕ) (a : Answer) {t u : Step} → t ≡ u → a ≡ answer (get s) u → s₁ ≡ put (after (get s) u) s
-    → (a ≡ answer (get s) t) × (s₁ ≡ put (after (get s) t) s)
-made s s₁ a e ea es = (ea ∙ ap (answer (get s)) (sym e), es ∙ ap (λ (v : Step). put (after (get s) v) s) (sym e))
+pub of-kind : (s : List ℕ) {r : Reply} {s₁ : List ℕ} {t u : Step} → t ≡ u → (r ≡ replyTo s u) × (s₁ ≡ leftBy s u) → (r ≡ replyTo s t) × (s₁ ≡ leftBy s t)
+of-kind s e h = (h .0 ∙ ap (replyTo s) (sym e), h .1 ∙ ap (leftBy s) (sym e))
 
 -- a load writes nothing, which is to write the rack that is there
 pub loaded : (s : List ℕ) → Bytes s → Whole s → (c b w : ℕ) → s ≡ put (after (get s) (Load c b w)) s
@@ -33,7 +29,7 @@ loaded s bytes whole c b w = sym (put-get s (formed s bytes whole))
 -- ---- by the verdict of the table
 
 module _ (s : List ℕ) (t : Step) (k : Check) (e : k ≡ check (get s) t) where
-  pub refused-is : (n : Refusal) → k ≡ Refuse n → (Refused n ≡ reply (rules (get s) t)) × (s ≡ recordAfter s (rules (get s) t))
+  pub refused-is : (n : Refusal) → k ≡ Refuse n → (Refused n ≡ replyTo s t) × (s ≡ leftBy s t)
   unfolding rules
   refused-is n f = rw (sym e ∙ f) (refl, refl)
 
@@ -41,6 +37,6 @@ module _ (s : List ℕ) (t : Step) (k : Check) (e : k ≡ check (get s) t) where
   passed-is f = sym e ∙ f
 
   pub accepted-is : k ≡ Pass → (a : Answer) (s₁ : List ℕ) → (a ≡ answer (get s) t) × (s₁ ≡ put (after (get s) t) s)
-      → (Accepted a ≡ reply (rules (get s) t)) × (s₁ ≡ recordAfter s (rules (get s) t))
+      → (Accepted a ≡ replyTo s t) × (s₁ ≡ leftBy s t)
   unfolding rules
   accepted-is f a s₁ done = rw (sym e ∙ f) (ap Accepted (done .0), done .1)

@@ -1,95 +1,111 @@
-// Steps on a sound record: the refusal table of each kind, and the change that a step makes where it passes.
+// Steps on a sound record: of each kind, the lines of the refusal table, and the change where it passes.
 ghost use mathlib.Core.Path.{_≡_};
-ghost use Rattle.refusals.specs.declared.Check.the-variants.{Pass};
-ghost use Rattle.protocol.specs.Rules.{check, answer, after, rules};
-ghost use Rattle.protocol.specs.Memory.{reply};
-ghost use Rattle.record.specs.Record.{get, put};
-ghost use Rattle.record.specs.Needs.{Whole, Ready};
-ghost use Rattle.steps.specs.Apply.{recordAfter};
+ghost use Rattle.record.specs.Needs.{Ready};
+ghost use Rattle.steps.specs.Apply.{replyTo, leftBy};
 use kinds::Step;
 use protocol::Answer;
 use protocol::Reply;
 use refusals::Check;
 
-// The verdict of the refusal table on a step.
-pub fn check(rec: &[u8], step: Step) -> Check
-    requires { ⌜ Whole (now rec) ⌝ }
-    ensures { λ r. ⌜ r ≡ check (get (now (rec .entry))) step ⌝ }
+fn load(rec: &mut [u8], component: u8, block: u8, word: u8) -> Reply
+    requires { ⌜ Ready (now rec) ⌝ }
+    ensures reply { λ r. ⌜ r ≡ replyTo (now (rec .entry)) (Step.Load component block word) ⌝ }
+    ensures buffer { λ r. ⌜ now (rec .exit) ≡ leftBy (now (rec .entry)) (Step.Load component block word) ⌝ }
 {
-    match step {
-        Step::Load {
-            component,
-            block,
-            word,
-        } => access::load_check(rec, component, block, word),
-        Step::Store {
-            component,
-            block,
-            word,
-            value,
-        } => access::store_check(rec, component, block, word, value),
-        Step::Send {
-            component,
-            block,
-            target,
-            plain,
-            owner,
-            data,
-        } => sendable::send_check(rec, component, block, target, plain, owner, data),
-        Step::Deliver { position } => delivery::deliver_check(rec, position),
-        Step::Raise { component, block } => claiming::raise_check(rec, component, block),
-        Step::Lower { component, block } => claiming::lower_check(rec, component, block),
-        Step::Forward { component, block } => sendable::forward_check(rec, component, block),
+    match access::load_check(rec, component, block, word) {
+        Check::Refuse(refusal) => Reply::Refused(refusal),
+        Check::Pass => Reply::Accepted(access::load(rec, component, block, word)),
     }
 }
 
-// What a step that passes makes of the record, and its answer.
-pub fn change(rec: &mut [u8], step: Step) -> Answer
-    requires { ⌜ Ready (now rec) × (check (get (now rec)) step ≡ Pass) ⌝ }
-    ensures answer { λ r. ⌜ r ≡ answer (get (now (rec .entry))) step ⌝ }
-    ensures buffer { λ r. ⌜ now (rec .exit) ≡ put (after (get (now (rec .entry))) step) (now (rec .entry)) ⌝ }
+fn store(rec: &mut [u8], component: u8, block: u8, word: u8, value: u32) -> Reply
+    requires { ⌜ Ready (now rec) ⌝ }
+    ensures reply { λ r. ⌜ r ≡ replyTo (now (rec .entry)) (Step.Store component block word value) ⌝ }
+    ensures buffer { λ r. ⌜ now (rec .exit) ≡ leftBy (now (rec .entry)) (Step.Store component block word value) ⌝ }
 {
-    match step {
-        Step::Load {
-            component,
-            block,
-            word,
-        } => access::load(rec, component, block, word),
-        Step::Store {
-            component,
-            block,
-            word,
-            value,
-        } => {
+    match access::store_check(rec, component, block, word, value) {
+        Check::Refuse(refusal) => Reply::Refused(refusal),
+        Check::Pass => {
             access::store(rec, component, block, word, value);
-            Answer::Done
+            Reply::Accepted(Answer::Done)
         }
-        Step::Send {
-            component,
-            block,
-            target,
-            plain,
-            owner,
-            data,
-        } => {
+    }
+}
+
+fn send(
+    rec: &mut [u8],
+    component: u8,
+    block: u8,
+    target: u8,
+    plain: u8,
+    owner: bool,
+    data: bool,
+) -> Reply
+    requires { ⌜ Ready (now rec) ⌝ }
+    ensures reply { λ r. ⌜ r ≡ replyTo (now (rec .entry)) (Step.Send component block target plain owner «data») ⌝ }
+    ensures buffer { λ r. ⌜ now (rec .exit) ≡ leftBy (now (rec .entry)) (Step.Send component block target plain owner «data») ⌝ }
+{
+    match sendable::send_check(rec, component, block, target, plain, owner, data) {
+        Check::Refuse(refusal) => Reply::Refused(refusal), // no token was taken
+        Check::Pass => {
             sending::send(rec, component, block, target, plain, owner, data);
-            Answer::Done
+            Reply::Accepted(Answer::Done)
         }
-        Step::Deliver { position } => {
+    }
+}
+
+fn deliver(rec: &mut [u8], position: u8) -> Reply
+    requires { ⌜ Ready (now rec) ⌝ }
+    ensures reply { λ r. ⌜ r ≡ replyTo (now (rec .entry)) (Step.Deliver position) ⌝ }
+    ensures buffer { λ r. ⌜ now (rec .exit) ≡ leftBy (now (rec .entry)) (Step.Deliver position) ⌝ }
+{
+    match delivery::deliver_check(rec, position) {
+        Check::Refuse(refusal) => Reply::Refused(refusal),
+        Check::Pass => {
             delivery::deliver(rec, position);
-            Answer::Done
+            Reply::Accepted(Answer::Done)
         }
-        Step::Raise { component, block } => {
+    }
+}
+
+fn raise(rec: &mut [u8], component: u8, block: u8) -> Reply
+    requires { ⌜ Ready (now rec) ⌝ }
+    ensures reply { λ r. ⌜ r ≡ replyTo (now (rec .entry)) (Step.Raise component block) ⌝ }
+    ensures buffer { λ r. ⌜ now (rec .exit) ≡ leftBy (now (rec .entry)) (Step.Raise component block) ⌝ }
+{
+    match claiming::raise_check(rec, component, block) {
+        Check::Refuse(refusal) => Reply::Refused(refusal),
+        Check::Pass => {
             claiming::raise(rec, component, block);
-            Answer::Done
+            Reply::Accepted(Answer::Done)
         }
-        Step::Lower { component, block } => {
+    }
+}
+
+fn lower(rec: &mut [u8], component: u8, block: u8) -> Reply
+    requires { ⌜ Ready (now rec) ⌝ }
+    ensures reply { λ r. ⌜ r ≡ replyTo (now (rec .entry)) (Step.Lower component block) ⌝ }
+    ensures buffer { λ r. ⌜ now (rec .exit) ≡ leftBy (now (rec .entry)) (Step.Lower component block) ⌝ }
+{
+    match claiming::lower_check(rec, component, block) {
+        Check::Refuse(refusal) => Reply::Refused(refusal),
+        Check::Pass => {
             claiming::lower(rec, component, block);
-            Answer::Done
+            Reply::Accepted(Answer::Done)
         }
-        Step::Forward { component, block } => {
+    }
+}
+
+fn forward(rec: &mut [u8], component: u8, block: u8) -> Reply
+    requires { ⌜ Ready (now rec) ⌝ }
+    ensures reply { λ r. ⌜ r ≡ replyTo (now (rec .entry)) (Step.Forward component block) ⌝ }
+    ensures buffer { λ r. ⌜ now (rec .exit) ≡ leftBy (now (rec .entry)) (Step.Forward component block) ⌝ }
+{
+    match sendable::forward_check(rec, component, block) {
+        Check::Refuse(refusal) => Reply::Refused(refusal),
+        Check::Pass => {
             sending::forward(rec, component, block);
-            Answer::Done
+            Reply::Accepted(Answer::Done)
         }
     }
 }
@@ -97,11 +113,32 @@ pub fn change(rec: &mut [u8], step: Step) -> Answer
 // A step on a sound record: refused, with nothing changed, or made.
 pub fn apply(rec: &mut [u8], step: Step) -> Reply
     requires { ⌜ Ready (now rec) ⌝ }
-    ensures reply { λ r. ⌜ r ≡ reply (rules (get (now (rec .entry))) step) ⌝ }
-    ensures buffer { λ r. ⌜ now (rec .exit) ≡ recordAfter (now (rec .entry)) (rules (get (now (rec .entry))) step) ⌝ }
+    ensures reply { λ r. ⌜ r ≡ replyTo (now (rec .entry)) step ⌝ }
+    ensures buffer { λ r. ⌜ now (rec .exit) ≡ leftBy (now (rec .entry)) step ⌝ }
 {
-    match check(rec, step) {
-        Check::Refuse(refusal) => Reply::Refused(refusal),
-        Check::Pass => Reply::Accepted(change(rec, step)),
+    match step {
+        Step::Load {
+            component,
+            block,
+            word,
+        } => load(rec, component, block, word),
+        Step::Store {
+            component,
+            block,
+            word,
+            value,
+        } => store(rec, component, block, word, value),
+        Step::Send {
+            component,
+            block,
+            target,
+            plain,
+            owner,
+            data,
+        } => send(rec, component, block, target, plain, owner, data),
+        Step::Deliver { position } => deliver(rec, position),
+        Step::Raise { component, block } => raise(rec, component, block),
+        Step::Lower { component, block } => lower(rec, component, block),
+        Step::Forward { component, block } => forward(rec, component, block),
     }
 }
