@@ -1,36 +1,37 @@
 // Load and store: their lines of the refusal table, and what they read and write where they pass.
 ghost use mathlib.Core.Path.{_≡_};
-ghost use Rattle.refusals.specs.declared.Check.the-variants.{Pass};
-ghost use Rattle.protocol.specs.Rules.{check, answer, after};
-ghost use Rattle.record.specs.Record.{get, put};
+ghost use Rattle.protocol.specs.Rules.{check};
+ghost use Rattle.record.specs.Record.{get};
 ghost use Rattle.record.specs.Needs.{Whole, Ready};
+ghost use Rattle.verdicts.specs.Apply.{replyTo, leftBy};
 use base::wide;
 use kinds::Step;
 use protocol::Answer;
+use protocol::Reply;
 use refusals::Check;
 use refusals::Refusal;
 
-pub fn load_check(rec: &[u8], component: u8, block: u8, word: u8) -> Check
-    requires { ⌜ Whole (now rec) ⌝ }
-    ensures { λ r. ⌜ r ≡ check (get (now (rec .entry))) (Step.Load component block word) ⌝ }
+pub fn load(rec: &[u8], component: u8, block: u8, word: u8) -> Reply
+    requires { ⌜ Ready (now rec) ⌝ }
+    ensures { λ r. ⌜ r ≡ replyTo (now (rec .entry)) (Step.Load component block word) ⌝ }
 {
     if verdicts::off_word(rec, component, block, word) {
-        return Check::Refuse(Refusal::OffRack);
+        return Reply::Refused(Refusal::OffRack);
     }
     if verdicts::at_home(component) {
-        return Check::Refuse(Refusal::Home);
+        return Reply::Refused(Refusal::Home);
     }
     let marks = cells::marks_of(rec, block, component);
     if marks::held(marks) == 0 {
-        return Check::Refuse(Refusal::NoToken);
+        return Reply::Refused(Refusal::NoToken);
     }
     if !marks.valid {
-        return Check::Refuse(Refusal::NoData);
+        return Reply::Refused(Refusal::NoData);
     }
-    Check::Pass
+    Reply::Accepted(Answer::Word(cells::word(rec, block, component, word)))
 }
 
-pub fn store_check(rec: &[u8], component: u8, block: u8, word: u8, value: u32) -> Check
+fn store_check(rec: &[u8], component: u8, block: u8, word: u8, value: u32) -> Check
     requires { ⌜ Whole (now rec) ⌝ }
     ensures { λ r. ⌜ r ≡ check (get (now (rec .entry))) (Step.Store component block word value) ⌝ }
 {
@@ -47,16 +48,15 @@ pub fn store_check(rec: &[u8], component: u8, block: u8, word: u8, value: u32) -
     Check::Pass
 }
 
-pub fn load(rec: &[u8], component: u8, block: u8, word: u8) -> Answer
-    requires { ⌜ Ready (now rec) × (check (get (now rec)) (Step.Load component block word) ≡ Pass) ⌝ }
-    ensures { λ r. ⌜ r ≡ answer (get (now (rec .entry))) (Step.Load component block word) ⌝ }
+pub fn store(rec: &mut [u8], component: u8, block: u8, word: u8, value: u32) -> Reply
+    requires { ⌜ Ready (now rec) ⌝ }
+    ensures reply { λ r. ⌜ r ≡ replyTo (now (rec .entry)) (Step.Store component block word value) ⌝ }
+    ensures buffer { λ r. ⌜ now (rec .exit) ≡ leftBy (now (rec .entry)) (Step.Store component block word value) ⌝ }
 {
-    Answer::Word(cells::word(rec, block, component, word))
-}
-
-pub fn store(rec: &mut [u8], component: u8, block: u8, word: u8, value: u32)
-    requires { ⌜ Ready (now rec) × (check (get (now rec)) (Step.Store component block word value) ≡ Pass) ⌝ }
-    ensures { λ r. ⌜ now (rec .exit) ≡ put (after (get (now (rec .entry))) (Step.Store component block word value)) (now (rec .entry)) ⌝ }
-{
-    cells::set_word(rec, block, component, word, value);
+    let verdict = store_check(rec, component, block, word, value);
+    if verdicts::passes(verdict) {
+        cells::set_word(rec, block, component, word, value);
+        return Reply::Accepted(Answer::Done);
+    }
+    verdicts::told(verdict)
 }

@@ -3,22 +3,15 @@ ghost use mathlib.Core.Path.{_≡_};
 ghost use Rattle.refusals.specs.declared.Check.the-variants.{Pass};
 ghost use Rattle.protocol.specs.Rules.{check, after};
 ghost use Rattle.record.specs.Record.{get, put};
-ghost use Rattle.record.specs.Needs.{Whole, Ready};
+ghost use Rattle.record.specs.Needs.{Ready};
+ghost use Rattle.verdicts.specs.Apply.{replyTo, leftBy};
 use kinds::Step;
-use refusals::Check;
+use protocol::Answer;
+use protocol::Reply;
 use refusals::Refusal;
 
-pub fn deliver_check(rec: &[u8], position: u8) -> Check
-    requires { ⌜ Whole (now rec) ⌝ }
-    ensures { λ r. ⌜ r ≡ check (get (now (rec .entry))) (Step.Deliver position) ⌝ }
-{
-    if rec[3] <= position {
-        return Check::Refuse(Refusal::NoMessage);
-    }
-    Check::Pass
-}
-
-pub fn deliver(rec: &mut [u8], position: u8)
+// Takes the message out of the mesh and adds its tokens, and its words where it has data, to the target.
+fn hand_over(rec: &mut [u8], position: u8)
     requires { ⌜ Ready (now rec) × (check (get (now rec)) (Step.Deliver position) ≡ Pass) ⌝ }
     ensures { λ r. ⌜ now (rec .exit) ≡ put (after (get (now (rec .entry))) (Step.Deliver position)) (now (rec .entry)) ⌝ }
 {
@@ -33,4 +26,16 @@ pub fn deliver(rec: &mut [u8], position: u8)
     } else {
         cells::set_marks(rec, block, target, marks);
     }
+}
+
+pub fn deliver(rec: &mut [u8], position: u8) -> Reply
+    requires { ⌜ Ready (now rec) ⌝ }
+    ensures reply { λ r. ⌜ r ≡ replyTo (now (rec .entry)) (Step.Deliver position) ⌝ }
+    ensures buffer { λ r. ⌜ now (rec .exit) ≡ leftBy (now (rec .entry)) (Step.Deliver position) ⌝ }
+{
+    if rec[3] <= position {
+        return Reply::Refused(Refusal::NoMessage);
+    }
+    hand_over(rec, position);
+    Reply::Accepted(Answer::Done)
 }

@@ -18,7 +18,7 @@ use Rattle.record.specs.Record.{get}
 use Rattle.record.specs.Sound.{soundBytes}
 use Rattle.record.proofs.Live.{live-of, whole-of}
 use Rattle.record.specs.Needs.{Ready}
-use Rattle.steps.specs.Apply.{recordAfter}
+use Rattle.verdicts.specs.Apply.{recordAfter}
 use Rattle.judging.specs.Step.{outcome, stepTold, stepAfter}
 
 -- a reply and a buffer that an outcome on s leaves

@@ -24,7 +24,7 @@ use Rattle.protocol.proofs.Steps.{Kept, Keeps, StepFits, step-keeps}
 use Rattle.record.specs.Record.{get}
 use Rattle.record.specs.Sound.{soundBytes}
 use Rattle.record.proofs.Live.{Live, live-of, sound-of, put-is, put-live}
-use Rattle.steps.specs.Apply.{recordAfter}
+use Rattle.verdicts.specs.Apply.{recordAfter}
 use Rattle.judging.specs.Step.{outcome, stepTold, stepAfter}
 use Rattle.judging.specs.Lists.{after, answered, handed, answers, accesses}
 

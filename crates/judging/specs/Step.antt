@@ -11,7 +11,7 @@ use Rattle.protocol.specs.Rules.{Outcome, refused, rules}
 use Rattle.protocol.specs.Memory.{reply}
 use Rattle.record.specs.Record.{get}
 use Rattle.record.specs.Sound.{soundBytes}
-use Rattle.steps.specs.Apply.{recordAfter}
+use Rattle.verdicts.specs.Apply.{recordAfter}
 
 -- bytes that are no step record are refused, then a buffer that holds no sound record; then the rules decide
 abbrev pub outcome : Reading → List ℕ → Outcome

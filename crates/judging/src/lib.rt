@@ -2,7 +2,7 @@
 ghost use mathlib.Core.Path.{_≡_};
 ghost use Rattle.record.specs.Sound.{soundBytes};
 ghost use Rattle.protocol.specs.Memory.{reply};
-ghost use Rattle.steps.specs.Apply.{recordAfter};
+ghost use Rattle.verdicts.specs.Apply.{recordAfter};
 ghost use Rattle.judging.specs.Step.{outcome, stepTold, stepAfter};
 use kinds::Reading;
 use kinds::Step;

@@ -2,3 +2,4 @@ pub mod Claimed
 pub mod OnRack
 pub mod Verdicts
 pub mod Passed
+pub mod Made

@@ -1,7 +1,7 @@
 -- A component and a block that are not off the rack: what the bytes of the record say of them.
 use Prim.Native.Nat.{ℕ, _+_, _*_, _≤_, _<_}
 use native.Mathlib.Omega.{arith}
-use mathlib.Core.Path.{_≡_, sym, ap, _∙_}
+use mathlib.Core.Path.{_≡_, refl, sym, ap, _∙_}
 use mathlib.Core.Bool.{Bool, true, false, _||_}
 use mathlib.Core.List.{List}
 use lib.Dec.{leb, ltb}
@@ -70,3 +70,8 @@ module _ (s : List ℕ) (c b : ℕ) {off : Bool} (is : off ≡ offRack (get s) c
     verdict-here bytes f h =
         h (getD s 0 0) component-on (omega (arith, whole .boards))
         ∙ ap (λ (k : Claims). f k c) (claims-read s whole b block-on at e bytes)
+
+-- after the test for a word off the rack
+pub on-word : (s : List ℕ) → Whole s → (c b w : ℕ) {off : Bool} → off ≡ (offRack (get s) c b || ltb 7 w) → off ≡ false → InCell s b c × (w < 8)
+on-word s whole c b w is on =
+    (in-cell s c b refl (on-of s c b w is on) whole, omega (arith, ltb-false 7 w (or-r (offRack (get s) c b) (ltb 7 w) (sym is ∙ on))))

@@ -1,5 +1,5 @@
 -- What a check that passes tells: down the refusal table each test has failed.
-use mathlib.Core.Path.{_≡_}
+use mathlib.Core.Path.{_≡_, refl}
 use mathlib.Core.Bool.{Bool, false, _||_}
 use mathlib.Core.List.{List}
 use Prim.Native.Nat.{ℕ, _≤_, _<_}
@@ -21,20 +21,13 @@ use Rattle.record.specs.Record.{get}
 use Rattle.record.specs.Needs.{InCell, Ready}
 use Rattle.record.proofs.Record.{boards-is, blocks-is, mesh-is}
 use Rattle.verdicts.specs.Sendable.{CanSend}
+use Rattle.verdicts.proofs.OnRack.{in-cell, on-word}
 
 module _ (s : List ℕ) (ready : Ready s) where
   -- ---- the lines that several kinds share
 
   on-rack : (c b : ℕ) → offRack (get s) c b ≡ false → InCell s b c
-  on-rack c b h =
-      record {
-        whole = ready .whole;
-        block = omega (arith, blocks-is s, leb-false (length (get s .blocks)) b (or-r (ltb (get s .boards) c) (leb (length (get s .blocks)) b) h));
-        component = omega (arith, boards-is s, ltb-false (get s .boards) c (or-l (ltb (get s .boards) c) (leb (length (get s .blocks)) b) h));
-      }
-
-  on-word : (c b w : ℕ) → (offRack (get s) c b || ltb 7 w) ≡ false → InCell s b c × (w < 8)
-  on-word c b w h = (on-rack c b (or-l (offRack (get s) c b) (ltb 7 w) h), omega (arith, ltb-false 7 w (or-r (offRack (get s) c b) (ltb 7 w) h)))
+  on-rack c b h = in-cell s c b refl h (ready .whole)
 
   on-board : (c b : ℕ) (k : Check) → (when offRack (get s) c b refuse OffRack else when eqb c 0 refuse Home else k) ≡ Pass → InCell s b c × (1 ≤ c)
   on-board c b k h =
@@ -48,13 +41,9 @@ module _ (s : List ℕ) (ready : Ready s) where
 
   -- ---- kind by kind
 
-  pub load-passed : (c b w : ℕ) → check (get s) (Load c b w) ≡ Pass → InCell s b c × (w < 8)
-  unfolding check
-  load-passed c b w h = on-word c b w (past _ _ _ h .0)
-
   pub store-passed : (c b w v : ℕ) → check (get s) (Store c b w v) ≡ Pass → InCell s b c × (w < 8)
   unfolding check
-  store-passed c b w v h = on-word c b w (past _ _ _ h .0)
+  store-passed c b w v h = on-word s (ready .whole) c b w refl (past _ _ _ h .0)
 
   pub send-passed : (c b t p : ℕ) (o d : Bool) → check (get s) (Send c b t p o d) ≡ Pass → CanSend s c b p
   unfolding check

@@ -1,2 +1,4 @@
 pub mod Clear
 pub mod Sendable
+pub mod Apply
+pub mod Verdict

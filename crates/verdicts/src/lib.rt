@@ -9,6 +9,10 @@ ghost use Rattle.protocol.specs.Rack.{claimsAt};
 ghost use Rattle.protocol.specs.Rules.{offRack, meshFull};
 ghost use Rattle.record.specs.Record.{get};
 ghost use Rattle.record.specs.Needs.{Whole};
+ghost use Rattle.verdicts.specs.Verdict.{passed, toldBy};
+use protocol::Answer;
+use protocol::Reply;
+use refusals::Check;
 
 // Whether the component is above N or the block not below B.
 pub fn off_rack(rec: &[u8], component: u8, block: u8) -> bool
@@ -60,4 +64,24 @@ pub fn mesh_full(rec: &[u8]) -> bool
     ensures { λ r. ⌜ r ≡ meshFull (get (now (rec .entry))) ⌝ }
 {
     64 <= rec[3]
+}
+
+// Whether a verdict lets the step pass.
+pub fn passes(verdict: Check) -> bool
+    ensures { λ r. ⌜ r ≡ passed verdict ⌝ }
+{
+    match verdict {
+        Check::Pass => true,
+        Check::Refuse(_) => false,
+    }
+}
+
+// The reply to a step that gives only "done".
+pub fn told(verdict: Check) -> Reply
+    ensures { λ r. ⌜ r ≡ toldBy verdict ⌝ }
+{
+    match verdict {
+        Check::Pass => Reply::Accepted(Answer::Done),
+        Check::Refuse(refusal) => Reply::Refused(refusal),
+    }
 }

@@ -1,95 +1,32 @@
--- `delivery::deliver` meets its contract: the message is removed, then the target has its tokens, and its words with data.
+-- `delivery::deliver` meets its contract: its test is the table's.
+use mathlib.Core.Path.{refl, sym}
 use native.Mathlib.Omega.{arith}
 use borrow.Author.Needs.{needs}
-use Rattle.protocol.specs.Rules.{after}
-use Rattle.delivery.proofs.Delivered.{delivered-in-cell, delivered-fits, delivered-data, delivered-bare}
-use Rattle.verdicts.proofs.Passed.{deliver-passed}
+use Rattle.refusals.specs.declared.Check.the-variants.{Refuse}
+use Rattle.refusals.specs.declared.Refusal.the-variants.{NoMessage}
+use Rattle.protocol.specs.Rules.{answer}
+use Rattle.record.proofs.Record.{mesh-is}
+use Rattle.verdicts.proofs.Verdicts.{deliver-no-message, deliver-pass}
+use Rattle.verdicts.proofs.Made.{made, kept}
 use Rattle.delivery.proofs.deliver.Statement.{statement}
 use Rattle.delivery.proofs.deliver.Tie as tie
 
-message-at-requires : tie.Need-message-at-requires
-message-at-requires c κs =
-    let s = c .before .before in
-    (s .pre .0 .whole, omega (arith, deliver-passed (s .args .rec .now) (s .pre .0) (s .args .position) (s .pre .1)))
+slice-read-if1 : tie.Need-slice-read-if1
+slice-read-if1 c = search needs
 
-remove-requires : tie.Need-remove-requires
-remove-requires c κs =
-    let s = c .before .before .before .before in
-    (s .pre .0 .whole, omega (arith, deliver-passed (s .args .rec .now) (s .pre .0) (s .args .position) (s .pre .1)))
+returns : tie.Need-returns
+unfolding answer
+returns c = kept _ _ refl (Refuse NoMessage) (deliver-no-message _ _ (mesh-is _) (omega arith)) refl refl refl
 
-marks-of-requires : tie.Need-marks-of-requires
-marks-of-requires c κs =
-    let gone = c .before .before .before in
-    let found = gone .before .before in
-    let s = found .before .before .before in
-    delivered-in-cell (s .args .rec .now) (λ k. found .before .before .slice-known .given k .fits) (s .args .position) (s .pre) (found .message-at .result) (found .message-at .ensures)
-    (gone .remove .last .0) (gone .remove .ensures)
-
-more-requires : tie.Need-more-requires
-more-requires c κs =
-    let gone = c .before .before .before .before in
-    let found = gone .before .before in
-    let s = found .before .before .before in
-    delivered-fits (s .args .rec .now) (λ k. found .before .before .slice-known .given k .fits) (s .args .position) (s .pre) (found .message-at .result) (found .message-at .ensures)
-    (gone .remove .last .0) (gone .remove .ensures) (c .marks-of .result) (c .marks-of .ensures)
-
-set-cell-requires : tie.Need-set-cell-requires
-set-cell-requires c κs =
-    let gone = c .before .before .before .before .before .before .before .before in
-    let found = gone .before .before in
-    let s = found .before .before .before in
-    delivered-in-cell (s .args .rec .now) (λ k. found .before .before .slice-known .given k .fits) (s .args .position) (s .pre) (found .message-at .result) (found .message-at .ensures)
-    (gone .remove .last .0) (gone .remove .ensures)
-
-set-marks-requires : tie.Need-set-marks-requires
-set-marks-requires c κs =
-    let gone = c .before .before .before .before .before .before .before in
-    let found = gone .before .before in
-    let s = found .before .before .before in
-    delivered-in-cell (s .args .rec .now) (λ k. found .before .before .slice-known .given k .fits) (s .args .position) (s .pre) (found .message-at .result) (found .message-at .ensures)
-    (gone .remove .last .0) (gone .remove .ensures)
+hand-over-requires : tie.Need-hand-over-requires
+hand-over-requires c κs = (c .before .before .before .before .pre, sym (deliver-pass _ _ (mesh-is _) (omega arith)))
 
 same-length : tie.Need-same-length
 same-length c = search needs
 
-returns : tie.Need-returns
-unfolding after
-returns c =
-    let gone = c .before .before .before .before .before .before .before .before .before .before .before in
-    let found = gone .before .before in
-    let s = found .before .before .before in
-    let told = c .before .before .before .before .before .before in
-    delivered-data (s .args .rec .now) (λ k. found .before .before .slice-known .given k .fits) (s .args .position) (s .pre) (found .message-at .result) (found .message-at .ensures)
-    (gone .remove .last .0) (gone .remove .ensures)
-    (told .before .marks-of .result) (told .before .marks-of .ensures) (told .more .result) (told .more .ensures)
-    (c .before .before .set-cell .last .0) (c .before .before .before .before .before .if1 .taken) (c .before .before .set-cell .ensures)
-
-same-length-2 : tie.Need-same-length-2
-same-length-2 c = search needs
-
 returns-2 : tie.Need-returns-2
-unfolding after
-returns-2 c =
-    let gone = c .before .before .before .before .before .before .before .before .before .before in
-    let found = gone .before .before in
-    let s = found .before .before .before in
-    let told = c .before .before .before .before .before in
-    delivered-bare (s .args .rec .now) (λ k. found .before .before .slice-known .given k .fits) (s .args .position) (s .pre) (found .message-at .result) (found .message-at .ensures)
-    (gone .remove .last .0) (gone .remove .ensures)
-    (told .before .marks-of .result) (told .before .marks-of .ensures) (told .more .result) (told .more .ensures)
-    (c .before .before .set-marks .last .0) (c .before .before .before .before .if1 .left) (c .before .before .set-marks .ensures)
+unfolding answer
+returns-2 c = made _ _ refl _ (sym (deliver-pass _ _ (mesh-is _) (omega arith))) (c .before .before .hand-over .ensures)
 
 pub deliver-spec : {M : Type 1} → statement M
-deliver-spec =
-    tie.close
-    (tie.spec
-    message-at-requires
-    remove-requires
-    marks-of-requires
-    more-requires
-    set-cell-requires
-    set-marks-requires
-    same-length
-    returns
-    same-length-2
-    returns-2)
+deliver-spec = tie.close (tie.spec slice-read-if1 returns hand-over-requires same-length returns-2)

@@ -1,56 +1,52 @@
--- `sending::forward` meets its contract: a send of what the cell tells to the board that the claims tell.
-use native.Mathlib.Omega.{arith}
-use mathlib.Core.Path.{ap, _∙_}
+-- `sending::forward` meets its contract: where the table passes all that is held goes on.
+use mathlib.Core.Path.{refl}
 use borrow.Author.Needs.{needs}
-use lib.ListN.{getD}
-use Rattle.arbiter.specs.Claims.{active}
-use Rattle.protocol.specs.Rules.{after}
-use Rattle.sending.proofs.Sent.{forwarded-is}
-use Rattle.verdicts.proofs.Claimed.{claims-room, claims-read}
-use Rattle.verdicts.proofs.Passed.{forward-passed}
+use Rattle.protocol.specs.Rules.{answer}
+use Rattle.verdicts.proofs.Made.{passes, made, kept}
 use Rattle.sending.proofs.forward.Statement.{statement}
 use Rattle.sending.proofs.forward.Tie as tie
 
-claims-place-requires : tie.Need-claims-place-requires
-claims-place-requires c κs = search needs
+forward-check-requires : tie.Need-forward-check-requires
+forward-check-requires c κs = search needs
 
-active-at-requires : tie.Need-active-at-requires
-active-at-requires c κs =
-    let place = c in
-    let s = place .before .before .before in
-    let can = forward-passed (s .args .rec .now) (s .pre .0) (s .args .component) (s .args .block) (s .pre .1) in
-    claims-room (s .args .rec .now) (s .pre .0 .whole) (s .args .block) (can .in-cell .block) (place .claims-place .result) (place .claims-place .ensures)
+passes-requires : tie.Need-passes-requires
+passes-requires c κs = search needs
 
-marks-of-requires : tie.Need-marks-of-requires
-marks-of-requires c κs = let s = c .before .before .before .before .before in
-    forward-passed (s .args .rec .now) (s .pre .0) (s .args .component) (s .args .block) (s .pre .1) .in-cell
-
-dispatch-requires : tie.Need-dispatch-requires
-dispatch-requires c κs =
-    let s = c .before .before .before .before .before .before .before in
-    let can = forward-passed (s .args .rec .now) (s .pre .0) (s .args .component) (s .args .block) (s .pre .1) in
-    record { ready = can .ready; in-cell = can .in-cell; enough = omega (arith, c .before .marks-of .ensures .plain); room = can .room }
+pass-on-requires : tie.Need-pass-on-requires
+pass-on-requires c κs =
+    let way = c .before in
+    (way .before .before .before .before .before .pre, passes _ _ _ (way .before .before .forward-check .ensures) (way .before .passes .ensures) (way .if1 .taken))
 
 same-length : tie.Need-same-length
 same-length c = search needs
 
 returns : tie.Need-returns
-unfolding after
+unfolding answer
 returns c =
-    let place = c .before .before .before .before .before .before .before in
-    let s = place .before .before .before in
-    let can = forward-passed (s .args .rec .now) (s .pre .0) (s .args .component) (s .args .block) (s .pre .1) in
-    forwarded-is (s .args .rec .now) (s .args .component) (s .args .block) (c .before .before .before .before .before .before .active-at .result) (c .before .before .before .before .marks-of .result)
-    (c .before .before .before .before .before .before .active-at .ensures (getD (s .args .rec .now) 0 0) ∙ ap active (claims-read (s .args .rec .now) (s .pre .0 .whole) (s .args .block) (can .in-cell .block) (place .claims-place .result) (place .claims-place .ensures) (λ k. place .before .before .slice-known .given k .fits)))
-    (c .before .before .before .before .marks-of .ensures) (c .before .before .dispatch .last .0) (c .before .before .dispatch .ensures)
+    let way = c .before .before .before .before in
+    made _ _ refl _ (passes _ _ _ (way .before .before .forward-check .ensures) (way .before .passes .ensures) (way .if1 .taken)) (c .before .before .pass-on .ensures)
+
+told-requires : tie.Need-told-requires
+told-requires c κs = search needs
+
+same-length-2 : tie.Need-same-length-2
+same-length-2 c = search needs
+
+returns-2 : tie.Need-returns-2
+unfolding answer
+returns-2 c =
+    let way = c .before in
+    kept _ _ refl _ (way .before .before .forward-check .ensures) (way .before .passes .ensures) (way .if1 .left) (c .told .ensures)
 
 pub forward-spec : {M : Type 1} → statement M
 forward-spec =
     tie.close
     (tie.spec
-    claims-place-requires
-    active-at-requires
-    marks-of-requires
-    dispatch-requires
+    forward-check-requires
+    passes-requires
+    pass-on-requires
     same-length
-    returns)
+    returns
+    told-requires
+    same-length-2
+    returns-2)

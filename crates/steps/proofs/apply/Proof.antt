@@ -1,5 +1,6 @@
 -- `steps::apply` meets its contract: each kind by its function.
 use borrow.Author.Needs.{needs}
+use Rattle.verdicts.proofs.Made.{load-leaves}
 use Rattle.steps.proofs.Made.{of-kind}
 use Rattle.steps.proofs.apply.Statement.{statement}
 use Rattle.steps.proofs.apply.Tie as tie
@@ -50,7 +51,10 @@ same-length : tie.Need-same-length
 same-length c = search needs
 
 returns : tie.Need-returns
-returns c = let s = c .before .before .before .before .before .before .before .before in of-kind (s .args .rec .now) (c .before .before .before .before .before .step .given .1) (c .before .before .load .ensures)
+returns c =
+    let known = c .before .before .before .before .before in
+    let s = known .before in
+    of-kind (s .args .rec .now) (c .before .before .before .step .given .1) (c .load .ensures, load-leaves (s .args .rec .now) (λ i. known .slice-known .given i .fits) (s .pre .whole) _ _ _)
 
 same-length-2 : tie.Need-same-length-2
 same-length-2 c = search needs
