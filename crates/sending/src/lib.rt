@@ -1,4 +1,4 @@
-// Send and forward: the tokens taken and the message made where their refusal tables pass.
+// Send and forward: the tokens taken and the message made where they pass.
 ghost use mathlib.Core.Path.{_≡_};
 ghost use mathlib.Core.Bool.{cond};
 ghost use Rattle.refusals.specs.declared.Check.the-variants.{Pass};
@@ -6,12 +6,9 @@ ghost use Rattle.protocol.specs.Rack.{zeros, cellAt};
 ghost use Rattle.protocol.specs.Rules.{sent, check, after};
 ghost use Rattle.record.specs.Record.{get, put};
 ghost use Rattle.record.specs.Needs.{InCell, Ready};
-ghost use Rattle.verdicts.specs.Apply.{replyTo, leftBy};
 ghost use Rattle.verdicts.specs.Sendable.{CanSend};
 use kinds::Step;
-use protocol::Answer;
 use protocol::Message;
-use protocol::Reply;
 
 // The words that go with a message.
 fn cargo(rec: &[u8], component: u8, block: u8, data: bool) -> [u32; 8]
@@ -25,7 +22,7 @@ fn cargo(rec: &[u8], component: u8, block: u8, data: bool) -> [u32; 8]
 }
 
 // Takes the tokens from the component and appends the message.
-fn dispatch(
+pub fn dispatch(
     rec: &mut [u8],
     component: u8,
     block: u8,
@@ -54,29 +51,8 @@ fn dispatch(
     cells::set_marks(rec, block, component, marks::less(marks, plain, owner));
 }
 
-pub fn send(
-    rec: &mut [u8],
-    component: u8,
-    block: u8,
-    target: u8,
-    plain: u8,
-    owner: bool,
-    data: bool,
-) -> Reply
-    requires { ⌜ Ready (now rec) ⌝ }
-    ensures reply { λ r. ⌜ r ≡ replyTo (now (rec .entry)) (Step.Send component block target plain owner «data») ⌝ }
-    ensures buffer { λ r. ⌜ now (rec .exit) ≡ leftBy (now (rec .entry)) (Step.Send component block target plain owner «data») ⌝ }
-{
-    let verdict = sendable::send_check(rec, component, block, target, plain, owner, data);
-    if verdicts::passes(verdict) { // a refused send takes no token
-        dispatch(rec, component, block, target, plain, owner, data);
-        return Reply::Accepted(Answer::Done);
-    }
-    verdicts::told(verdict)
-}
-
 // Sends all that is held to the active board, with data where it is valid.
-fn pass_on(rec: &mut [u8], component: u8, block: u8)
+pub fn pass_on(rec: &mut [u8], component: u8, block: u8)
     requires { ⌜ Ready (now rec) × (check (get (now rec)) (Step.Forward component block) ≡ Pass) ⌝ }
     ensures { λ r. ⌜ now (rec .exit) ≡ put (after (get (now (rec .entry))) (Step.Forward component block)) (now (rec .entry)) ⌝ }
 {
@@ -91,17 +67,4 @@ fn pass_on(rec: &mut [u8], component: u8, block: u8)
         marks.owner,
         marks.valid,
     );
-}
-
-pub fn forward(rec: &mut [u8], component: u8, block: u8) -> Reply
-    requires { ⌜ Ready (now rec) ⌝ }
-    ensures reply { λ r. ⌜ r ≡ replyTo (now (rec .entry)) (Step.Forward component block) ⌝ }
-    ensures buffer { λ r. ⌜ now (rec .exit) ≡ leftBy (now (rec .entry)) (Step.Forward component block) ⌝ }
-{
-    let verdict = sendable::forward_check(rec, component, block);
-    if verdicts::passes(verdict) {
-        pass_on(rec, component, block);
-        return Reply::Accepted(Answer::Done);
-    }
-    verdicts::told(verdict)
 }

@@ -1,9 +1,44 @@
-// Steps on a sound record: each by the function of its kind.
+// Steps on a sound record: each by the function of its kind. Send and forward have their checks and their changes in crates of their own.
 ghost use mathlib.Core.Path.{_≡_};
 ghost use Rattle.record.specs.Needs.{Ready};
 ghost use Rattle.verdicts.specs.Apply.{replyTo, leftBy};
 use kinds::Step;
+use protocol::Answer;
 use protocol::Reply;
+
+fn send(
+    rec: &mut [u8],
+    component: u8,
+    block: u8,
+    target: u8,
+    plain: u8,
+    owner: bool,
+    data: bool,
+) -> Reply
+    requires { ⌜ Ready (now rec) ⌝ }
+    ensures reply { λ r. ⌜ r ≡ replyTo (now (rec .entry)) (Step.Send component block target plain owner «data») ⌝ }
+    ensures buffer { λ r. ⌜ now (rec .exit) ≡ leftBy (now (rec .entry)) (Step.Send component block target plain owner «data») ⌝ }
+{
+    let verdict = sendable::send_check(rec, component, block, target, plain, owner, data);
+    if verdicts::passes(verdict) { // a refused send takes no token
+        sending::dispatch(rec, component, block, target, plain, owner, data);
+        return Reply::Accepted(Answer::Done);
+    }
+    verdicts::told(verdict)
+}
+
+fn forward(rec: &mut [u8], component: u8, block: u8) -> Reply
+    requires { ⌜ Ready (now rec) ⌝ }
+    ensures reply { λ r. ⌜ r ≡ replyTo (now (rec .entry)) (Step.Forward component block) ⌝ }
+    ensures buffer { λ r. ⌜ now (rec .exit) ≡ leftBy (now (rec .entry)) (Step.Forward component block) ⌝ }
+{
+    let verdict = sendable::forward_check(rec, component, block);
+    if verdicts::passes(verdict) {
+        sending::pass_on(rec, component, block);
+        return Reply::Accepted(Answer::Done);
+    }
+    verdicts::told(verdict)
+}
 
 // A step on a sound record: refused, with nothing changed, or made.
 pub fn apply(rec: &mut [u8], step: Step) -> Reply
@@ -30,10 +65,10 @@ pub fn apply(rec: &mut [u8], step: Step) -> Reply
             plain,
             owner,
             data,
-        } => sending::send(rec, component, block, target, plain, owner, data),
+        } => send(rec, component, block, target, plain, owner, data),
         Step::Deliver { position } => delivery::deliver(rec, position),
         Step::Raise { component, block } => claiming::raise(rec, component, block),
         Step::Lower { component, block } => claiming::lower(rec, component, block),
-        Step::Forward { component, block } => sending::forward(rec, component, block),
+        Step::Forward { component, block } => forward(rec, component, block),
     }
 }

@@ -1,10 +1,10 @@
--- `sending::forward` meets its contract: where the table passes all that is held goes on.
+-- `steps::forward` meets its contract: where the table passes all that is held goes on.
 use mathlib.Core.Path.{refl}
 use borrow.Author.Needs.{needs}
 use Rattle.protocol.specs.Rules.{answer}
 use Rattle.verdicts.proofs.Made.{passes, made, kept}
-use Rattle.sending.proofs.forward.Statement.{statement}
-use Rattle.sending.proofs.forward.Tie as tie
+use Rattle.steps.proofs.forward.Statement.{statement}
+use Rattle.steps.proofs.forward.Tie as tie
 
 forward-check-requires : tie.Need-forward-check-requires
 forward-check-requires c κs = search needs

@@ -1,11 +1,11 @@
--- `sending::send` meets its contract: the table has the tokens held and room in the mesh.
+-- `steps::send` meets its contract: the table has the tokens held and room in the mesh.
 use mathlib.Core.Path.{refl}
 use borrow.Author.Needs.{needs}
 use Rattle.protocol.specs.Rules.{answer, after}
 use Rattle.verdicts.proofs.Passed.{send-passed}
 use Rattle.verdicts.proofs.Made.{passes, made, kept}
-use Rattle.sending.proofs.send.Statement.{statement}
-use Rattle.sending.proofs.send.Tie as tie
+use Rattle.steps.proofs.send.Statement.{statement}
+use Rattle.steps.proofs.send.Tie as tie
 
 send-check-requires : tie.Need-send-check-requires
 send-check-requires c κs = search needs
