@@ -18,7 +18,7 @@ use Rattle.opening.specs.Opening.{openCheck, openReply, openTold, openAfter}
 use Rattle.opening.proofs.Opened.{sized, open-get, open-sound, open-bytes}
 use Rattle.judging.specs.Lists.{answers, accesses}
 use Rattle.engine.specs.Coherence.{Coherence, RunCoherence}
-use Rattle.engine.specs.Run.{given}
+use Rattle.running.specs.Run.{given}
 use Rattle.judging.proofs.Lists.{stepsOf, runs}
 
 passes : (k : Check) → openReply k ≡ Accepted Done → k ≡ Pass

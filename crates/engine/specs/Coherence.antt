@@ -10,7 +10,7 @@ use Rattle.protocol.specs.Memory.{blank, flat}
 use Rattle.record.specs.Record.{get}
 use Rattle.opening.specs.Opening.{openTold, openAfter}
 use Rattle.judging.specs.Lists.{after, answers, accesses}
-use Rattle.engine.specs.Run.{given, Ran}
+use Rattle.running.specs.Run.{given, Ran}
 
 -- The answered loads give what the flat memory gives when it is handed the accepted loads and stores; and after the list
 -- each of the b blocks has t tokens, in components and mesh as the record's layout has them, one of them the owner.

@@ -1,24 +1,49 @@
-// The engine: a list of steps given as bytes to the record in a lent buffer. `judging::step` gives one.
-ghost use Rattle.engine.specs.Run.{Ran};
-use base::both;
+// The engine for C and Rust: slices are a pointer and then a length, results one number (the crate packing says which).
+ghost use mathlib.Core.Path.{_≡_};
+ghost use Rattle.opening.specs.Opening.{openTold, openAfter};
+ghost use Rattle.letters.specs.Letter.{letterTold};
+ghost use Rattle.judging.specs.Step.{stepTold, stepAfter};
+ghost use Rattle.packing.specs.Packing.{packedReply, packedLetter, packedLength};
+ghost use Rattle.running.specs.Run.{Ran};
 
-pub mod exports;
+// How many bytes the record of a rack of that many blocks takes.
+#[no_mangle]
+pub extern "C" fn hyl_record_len(blocks: u32) -> u64
+    ensures { λ r. ⌜ r ≡ packedLength blocks ⌝ }
+{
+    packing::record_length(blocks)
+}
 
-// Gives the records of a list from a place on, one after the other, while there are places for replies. Soundness is decided once: an accepted
-// step keeps it, and a refused one changes nothing.
-pub fn run(rec: &mut [u8], list: &[u8], at: &mut usize, replies: &mut [u64]) -> usize
+// Opens a record at the front of a buffer.
+#[no_mangle]
+pub extern "C" fn hyl_open(rec: &mut [u8], boards: u32, blocks: u32, tokens: u32) -> u64
+    ensures reply { λ r. ⌜ r ≡ packedReply (openTold boards blocks tokens (now (rec .entry))) ⌝ }
+    ensures buffer { λ r. ⌜ now (rec .exit) ≡ openAfter boards blocks tokens (now (rec .entry)) ⌝ }
+{
+    packing::reply(opening::open(rec, boards, blocks, tokens))
+}
+
+// Gives the bytes of a step to the record.
+#[no_mangle]
+pub extern "C" fn hyl_step(rec: &mut [u8], step: &[u8]) -> u64
+    ensures reply { λ r. ⌜ r ≡ packedReply (stepTold (now (rec .entry)) (now (step .entry))) ⌝ }
+    ensures buffer { λ r. ⌜ now (rec .exit) ≡ stepAfter (now (rec .entry)) (now (step .entry)) ⌝ }
+{
+    packing::reply(judging::step(rec, step))
+}
+
+// Gives the records of a list from a place on; `at` goes to where the next run starts.
+#[no_mangle]
+pub extern "C" fn hyl_run(rec: &mut [u8], list: &[u8], at: &mut usize, replies: &mut [u64]) -> usize
     ensures { λ r. ⌜ Ran (now (rec .entry)) (now (list .entry)) (now (at .entry)) (now (replies .entry)) r (now (rec .exit)) (now (at .exit)) (now (replies .exit)) ⌝ }
 {
-    let sound = soundness::sound(rec);
-    let mut place = *at;
-    let mut made: usize = 0;
-    while both(made < replies.len(), place < list.len()) {
-        let end = cuts::cut(list, place);
-        let reply = judging::next(rec, sound, &list[place..end]);
-        replies[made] = packing::reply(reply);
-        place = end;
-        made += 1;
-    }
-    *at = place;
-    made
+    running::run(rec, list, at, replies)
+}
+
+// The state letter of a board and a block.
+#[no_mangle]
+pub extern "C" fn hyl_letter(rec: &[u8], component: u32, block: u32) -> u64
+    ensures { λ r. ⌜ r ≡ packedLetter (letterTold (now (rec .entry)) component block) ⌝ }
+{
+    packing::lettered(letters::letter(rec, component, block))
 }

@@ -1,4 +1,4 @@
--- `engine::run` meets its contract. The invariant: what is left of the list, given to what there is by now, makes what the whole makes; and soundness is as it was.
+-- `running::run` meets its contract. The invariant: what is left of the list, given to what there is by now, makes what the whole makes; and soundness is as it was.
 use mathlib.Core.Path.{refl}
 use Rattle.packing.specs.Packing.{packedReply}
 use native.Mathlib.Omega.{arith}
@@ -7,10 +7,10 @@ use Prim.Native.Nat.{ℕ, _-_, _<_}
 use mathlib.Core.Path.{_≡_, sym, ap, _∙_}
 use Rattle.record.specs.Sound.{soundBytes}
 use Rattle.judging.proofs.Lists.{sound-kept}
-use Rattle.engine.proofs.Running.{Going, going-start, going-more, going-end, ended, goes}
+use Rattle.running.proofs.Running.{Going, going-start, going-more, going-end, ended, goes}
 use borrow.Author.Needs.{needs}
-use Rattle.engine.proofs.run.Statement.{statement}
-use Rattle.engine.proofs.run.Tie as tie
+use Rattle.running.proofs.run.Statement.{statement}
+use Rattle.running.proofs.run.Tie as tie
 
 abbrev Inv-loop : tie.InvT-loop
 Inv-loop rec₀ list at replies₀ sound place₀ made₀ rec replies place made = Going rec₀ list at replies₀ rec replies place made × ((sound ≡ soundBytes rec) × (((i : ℕ) → getD rec i 0 < 256) × (length rec ≡ length rec₀)))

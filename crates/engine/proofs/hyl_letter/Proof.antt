@@ -1,9 +1,9 @@
--- `engine::exports::hyl_letter` meets its contract: the letter or the refusal, packed.
+-- `engine::hyl_letter` meets its contract: the letter or the refusal, packed.
 use Rattle.packing.specs.Packing.{packedLetter}
 use mathlib.Core.Path.{ap, _∙_}
 use borrow.Author.Needs.{needs}
-use Rattle.engine.proofs.exports.hyl_letter.Statement.{statement}
-use Rattle.engine.proofs.exports.hyl_letter.Tie as tie
+use Rattle.engine.proofs.hyl_letter.Statement.{statement}
+use Rattle.engine.proofs.hyl_letter.Tie as tie
 
 letter-requires : tie.Need-letter-requires
 letter-requires c κs = search needs

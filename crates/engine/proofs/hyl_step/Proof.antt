@@ -1,9 +1,9 @@
--- `engine::exports::hyl_step` meets its contract: the step, its reply packed.
+-- `engine::hyl_step` meets its contract: the step, its reply packed.
 use Rattle.packing.specs.Packing.{packedReply}
 use mathlib.Core.Path.{ap, _∙_}
 use borrow.Author.Needs.{needs}
-use Rattle.engine.proofs.exports.hyl_step.Statement.{statement}
-use Rattle.engine.proofs.exports.hyl_step.Tie as tie
+use Rattle.engine.proofs.hyl_step.Statement.{statement}
+use Rattle.engine.proofs.hyl_step.Tie as tie
 
 step-requires : tie.Need-step-requires
 step-requires c κs = search needs

@@ -1,9 +1,9 @@
--- `engine::exports::hyl_open` meets its contract: the opening, its reply packed.
+-- `engine::hyl_open` meets its contract: the opening, its reply packed.
 use Rattle.packing.specs.Packing.{packedReply}
 use mathlib.Core.Path.{ap, _∙_}
 use borrow.Author.Needs.{needs}
-use Rattle.engine.proofs.exports.hyl_open.Statement.{statement}
-use Rattle.engine.proofs.exports.hyl_open.Tie as tie
+use Rattle.engine.proofs.hyl_open.Statement.{statement}
+use Rattle.engine.proofs.hyl_open.Tie as tie
 
 open-requires : tie.Need-open-requires
 open-requires c κs = search needs

@@ -18,7 +18,7 @@ use Rattle.cuts.specs.Cut.{cutAt, cuts}
 use Rattle.cuts.proofs.Cutting.{cuts-first, cuts-none, cuts-zero, span}
 use Rattle.judging.specs.Lists.{after, replies}
 use Rattle.packing.specs.Packing.{packedReply}
-use Rattle.engine.specs.Run.{given, Ran}
+use Rattle.running.specs.Run.{given, Ran}
 
 module _ (rec₀ list : List ℕ) (at : ℕ) (out₀ : List ℕ) where
   -- the records that are left
