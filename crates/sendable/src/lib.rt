@@ -1,43 +1,39 @@
-// Send and forward: their lines of the refusal table.
+// Send and forward: their lines of the refusal table, made from the last up.
 ghost use mathlib.Core.Path.{_≡_};
-ghost use Prim.Native.Nat.{ℕ};
-ghost use Rattle.protocol.specs.Rack.{cellAt};
-ghost use Rattle.protocol.specs.Rules.{check};
+ghost use Rattle.refusals.specs.Table.{when_refuse_else_};
+ghost use Rattle.protocol.specs.Rules.{check, meshFull};
 ghost use Rattle.record.specs.Record.{get};
 ghost use Rattle.record.specs.Needs.{Whole};
-ghost use Rattle.record.specs.Changes.{MarksOf};
-ghost use Rattle.verdicts.specs.Clear.{Clear};
+ghost use Rattle.sendable.specs.Lines.{fromMarks};
 use arbiter::sets;
 use base::both;
+use base::either;
 use kinds::Step;
 use record::Marks;
 use refusals::Check;
 use refusals::Refusal;
 
+// A line of the table: the refusal where the test passes, and the verdict of the lines below where it fails. A table of such lines has no branch.
+fn line(test: bool, refusal: Refusal, below: Check) -> Check
+    ensures { λ r. ⌜ r ≡ (when test refuse refusal else below) ⌝ }
+{
+    if test {
+        return Check::Refuse(refusal);
+    }
+    below
+}
+
 // What a send asks of the sender's marks and the mesh, once its ends and its block are known and free.
 fn from_marks(rec: &[u8], marks: Marks, plain: u8, owner: bool, data: bool) -> Check
     requires { ⌜ Whole (now rec) ⌝ }
-    ensures { λ r. ⌜ ((c b t : ℕ) → Clear (get (now (rec .entry))) c b t → MarksOf (cellAt (get (now (rec .entry))) b c) marks → r ≡ check (get (now (rec .entry))) (Step.Send c b t plain owner «data»)) ⌝ }
+    ensures { λ r. ⌜ r ≡ fromMarks marks plain owner «data» (meshFull (get (now (rec .entry)))) ⌝ }
 {
-    if marks::tokens(plain, owner) == 0 {
-        return Check::Refuse(Refusal::Empty);
-    }
-    if marks.plain < plain {
-        return Check::Refuse(Refusal::NotHeld);
-    }
-    if both(owner, !marks.owner) {
-        return Check::Refuse(Refusal::NotHeld);
-    }
-    if both(owner, !data) {
-        return Check::Refuse(Refusal::BareOwner);
-    }
-    if both(data, !marks.valid) {
-        return Check::Refuse(Refusal::NoData);
-    }
-    if verdicts::mesh_full(rec) {
-        return Check::Refuse(Refusal::MeshFull);
-    }
-    Check::Pass
+    let full = line(verdicts::mesh_full(rec), Refusal::MeshFull, Check::Pass);
+    let stale = line(both(data, !marks.valid), Refusal::NoData, full);
+    let bare = line(both(owner, !data), Refusal::BareOwner, stale);
+    let lacks = either(marks.plain < plain, both(owner, !marks.owner));
+    let short = line(lacks, Refusal::NotHeld, bare);
+    line(marks::tokens(plain, owner) == 0, Refusal::Empty, short)
 }
 
 pub fn send_check(
@@ -55,17 +51,11 @@ pub fn send_check(
     if verdicts::off_rack(rec, component, block) {
         return Check::Refuse(Refusal::OffRack);
     }
-    if rec[0] < target {
-        return Check::Refuse(Refusal::OffRack);
-    }
-    if component == target {
-        return Check::Refuse(Refusal::SelfSend);
-    }
-    if verdicts::waiting(rec, block) != 0 {
-        return Check::Refuse(Refusal::Claimed);
-    }
     let marks = cells::marks_of(rec, block, component);
-    from_marks(rec, marks, plain, owner, data)
+    let below = from_marks(rec, marks, plain, owner, data);
+    let claimed = line(verdicts::waiting(rec, block) != 0, Refusal::Claimed, below);
+    let apart = line(component == target, Refusal::SelfSend, claimed);
+    line(rec[0] < target, Refusal::OffRack, apart)
 }
 
 pub fn forward_check(rec: &[u8], component: u8, block: u8) -> Check
@@ -76,17 +66,9 @@ pub fn forward_check(rec: &[u8], component: u8, block: u8) -> Check
         return Check::Refuse(Refusal::OffRack);
     }
     let boards = verdicts::waiting(rec, block);
-    if boards == 0 {
-        return Check::Refuse(Refusal::Unclaimed);
-    }
-    if component == sets::lowest(boards) {
-        return Check::Refuse(Refusal::SelfSend);
-    }
-    if marks::held(cells::marks_of(rec, block, component)) == 0 {
-        return Check::Refuse(Refusal::NoToken);
-    }
-    if verdicts::mesh_full(rec) {
-        return Check::Refuse(Refusal::MeshFull);
-    }
-    Check::Pass
+    let held = marks::held(cells::marks_of(rec, block, component));
+    let full = line(verdicts::mesh_full(rec), Refusal::MeshFull, Check::Pass);
+    let none = line(held == 0, Refusal::NoToken, full);
+    let apart = line(component == sets::lowest(boards), Refusal::SelfSend, none);
+    line(boards == 0, Refusal::Unclaimed, apart)
 }

@@ -2,38 +2,26 @@
 -- knows at its return: of every call its result's figure of the rack, of every branch the way that it went.
 use Prim.Native.Nat.{ℕ, _+_, _≤_, _<_}
 use native.Mathlib.Omega.{arith}
-use mathlib.Core.Path.{_≡_, sym, ap, _∙_}
-use mathlib.Core.Bool.{Bool, true, false, not, _&&_, _||_}
+use mathlib.Core.Path.{_≡_, sym, _∙_}
+use mathlib.Core.Bool.{Bool, true, false, not, _||_}
 use lib.Dec.{eqb, ltb}
 use lib.ListN.{length}
-use borrow.Author.Tests.{eq-eqb, ne-eqb, not-true, not-false}
+use borrow.Author.Tests.{not-true, not-false}
 use Rattle.base.specs.Folds.{one}
-use Rattle.base.proofs.Tests.{not-of-true}
-use Rattle.refusals.specs.declared.Refusal.the-variants.{OffRack, Home, NoToken, NoData, Short, SelfSend, Claimed, Empty, NotHeld, BareOwner, MeshFull, NoMessage, Unclaimed}
+use Rattle.refusals.specs.declared.Refusal.the-variants.{OffRack, Home, NoToken, NoData, Short, NoMessage}
 use Rattle.refusals.specs.declared.Check.{Check}
 use Rattle.refusals.specs.declared.Check.the-variants.{Pass, Refuse}
-use Rattle.refusals.specs.Table.{when_refuse_else_}
-use Rattle.refusals.proofs.Table.{table, goes}
+use Rattle.refusals.proofs.Table.{table}
 use Rattle.kinds.specs.declared.Step.the-variants.{Load, Store, Send, Deliver, Raise, Lower, Forward}
-use Rattle.arbiter.specs.Boards.{lowest}
-use Rattle.arbiter.specs.Claims.{Claims, waiting, active, unclaimed, raiseCheck, lowerCheck}
+use Rattle.arbiter.specs.Claims.{raiseCheck, lowerCheck}
 use Rattle.protocol.specs.Rack.{Cell, Rack, claimsAt, cellAt, held}
-use Rattle.protocol.specs.Rules.{check, offRack, meshFull}
+use Rattle.protocol.specs.Rules.{check, offRack}
 use Rattle.record.specs.declared.Marks.{Marks}
 use Rattle.record.specs.Changes.{MarksOf}
-use Rattle.verdicts.specs.Clear.{Clear}
 
 -- the marks tell how many tokens the cell holds
-held-is : {x : Cell} {m : Marks} {h : ℕ} → MarksOf x m → h ≡ m .plain + one (m .owner) → h ≡ held x
+pub held-is : {x : Cell} {m : Marks} {h : ℕ} → MarksOf x m → h ≡ m .plain + one (m .owner) → h ≡ held x
 held-is marks tokens = tokens ∙ (λ i. marks .plain i + one (marks .owner i))
-
--- some board waits, or none does
-module _ (k : Claims) {w : ℕ} (waits : w ≡ waiting k) where
-  nobody : w ≡ 0 → unclaimed k ≡ true
-  nobody none = eq-eqb (waiting k) 0 (sym waits ∙ none)
-
-  somebody : (w ≡ 0 → ⊥) → unclaimed k ≡ false
-  somebody some = ne-eqb (waiting k) 0 (λ e. some (waits ∙ e))
 
 -- ---- load and store
 
@@ -85,7 +73,7 @@ module _ (r : Rack) (c b w : ℕ) {off : Bool} (off-is : off ≡ (offRack r c b 
         unfolding check
         store-pass has = let has : r .tokens ≤ held (cellAt r b c) = omega (arith, held-is marks tokens) in search (table, sym off-is ∙ on-rack, sym home-is ∙ away) depth 10
 
--- ---- send down to "claimed", raise, lower and forward
+-- ---- raise and lower; send and forward off the rack
 
 module _ (r : Rack) (c b : ℕ) {off : Bool} (off-is : off ≡ offRack r c b) where
   module _ (off-rack : off ≡ true) where
@@ -106,32 +94,6 @@ module _ (r : Rack) (c b : ℕ) {off : Bool} (off-is : off ≡ offRack r c b) wh
     forward-off-rack = search (table, sym off-is ∙ off-rack) depth 10
 
   module _ (on-rack : off ≡ false) where
-    -- ---- send, down to "claimed"
-
-    module _ (t : ℕ) {n : ℕ} (boards : r .boards ≡ n) where
-      module _ (p : ℕ) (o d : Bool) where
-        pub send-target-off : n < t → Refuse OffRack ≡ check r (Send c b t p o d)
-        unfolding check
-        send-target-off off = let off : r .boards < t = omega arith in search table depth 10
-
-      module _ (target : t ≤ n) where
-        known : t ≤ r .boards
-        known = omega arith
-
-        pub send-self : (p : ℕ) (o d : Bool) → c ≡ t → Refuse SelfSend ≡ check r (Send c b t p o d)
-        unfolding check
-        send-self p o d self = search (table, sym off-is ∙ on-rack, known) depth 10
-
-        module _ (apart : c ≡ t → ⊥) {w : ℕ} (waits : w ≡ waiting (claimsAt r b)) where
-          pub send-claimed : (p : ℕ) (o d : Bool) → (w ≡ 0 → ⊥) → Refuse Claimed ≡ check r (Send c b t p o d)
-          unfolding check
-          send-claimed p o d some = let claimed : unclaimed (claimsAt r b) ≡ false = somebody (claimsAt r b) waits some in search (table, sym off-is ∙ on-rack, known) depth 10
-
-          pub clear-of : w ≡ 0 → Clear r c b t
-          clear-of none = record { on = search (table, sym off-is ∙ on-rack, known) depth 4; apart = ne-eqb c t apart; free = nobody (claimsAt r b) waits none }
-
-    -- ---- raise and lower
-
     module _ {home : Bool} (home-is : home ≡ eqb c 0) where
       module _ (at-home : home ≡ true) where
         pub raise-home : Refuse Home ≡ check r (Raise c b)
@@ -150,103 +112,6 @@ module _ (r : Rack) (c b : ℕ) {off : Bool} (off-is : off ≡ offRack r c b) wh
         pub lower-verdict : y ≡ lowerCheck (claimsAt r b) c → y ≡ check r (Lower c b)
         unfolding check
         lower-verdict e = search (table, sym off-is ∙ on-rack, sym home-is ∙ away) depth 10
-
-    -- ---- forward
-
-    module _ {w : ℕ} (waits : w ≡ waiting (claimsAt r b)) where
-      pub forward-unclaimed : w ≡ 0 → Refuse Unclaimed ≡ check r (Forward c b)
-      unfolding check
-      forward-unclaimed none = let free : unclaimed (claimsAt r b) ≡ true = nobody (claimsAt r b) waits none in search (table, sym off-is ∙ on-rack) depth 10
-
-      module _ (some : w ≡ 0 → ⊥) {a : ℕ} (first : a ≡ lowest w) where
-        active-is : a ≡ active (claimsAt r b)
-        active-is = first ∙ ap lowest waits
-
-        pub forward-self : c ≡ a → Refuse SelfSend ≡ check r (Forward c b)
-        unfolding check
-        forward-self self = let self : c ≡ active (claimsAt r b) = self ∙ active-is in search (table, sym off-is ∙ on-rack, somebody (claimsAt r b) waits some) depth 10
-
-        module _ (apart : c ≡ a → ⊥) {m : Marks} (marks : MarksOf (cellAt r b c) m) {h : ℕ} (tokens : h ≡ m .plain + one (m .owner)) where
-          other : c ≡ active (claimsAt r b) → ⊥
-          other e = apart (e ∙ sym active-is)
-
-          pub forward-no-token : h ≡ 0 → Refuse NoToken ≡ check r (Forward c b)
-          unfolding check
-          forward-no-token none = let none : held (cellAt r b c) ≡ 0 = sym (held-is marks tokens) ∙ none in search (table, sym off-is ∙ on-rack, somebody (claimsAt r b) waits some, other) depth 10
-
-          module _ (holds : h ≡ 0 → ⊥) {f : Bool} (full-is : f ≡ meshFull r) where
-            tokens-left : held (cellAt r b c) ≡ 0 → ⊥
-            tokens-left e = holds (held-is marks tokens ∙ e)
-
-            pub forward-full : f ≡ true → Refuse MeshFull ≡ check r (Forward c b)
-            unfolding check
-            forward-full full = let full : meshFull r ≡ true = sym full-is ∙ full in search (table, sym off-is ∙ on-rack, somebody (claimsAt r b) waits some, other, tokens-left) depth 10
-
-            pub forward-pass : f ≡ false → Pass ≡ check r (Forward c b)
-            unfolding check
-            forward-pass room = let room : meshFull r ≡ false = sym full-is ∙ room in search (table, sym off-is ∙ on-rack, somebody (claimsAt r b) waits some, other, tokens-left) depth 10
-
--- ---- send, from "empty" on
-
-module _ (r : Rack) (c b t p : ℕ) (o d : Bool) (clear : Clear r c b t) where
-  past : (y k : Check) → y ≡ k
-      → y ≡ (when offRack r c b || ltb (r .boards) t refuse OffRack else when eqb c t refuse SelfSend else when not (unclaimed (claimsAt r b)) refuse Claimed else k)
-  past y k e = goes _ _ _ _ (clear .on) (goes _ _ _ _ (clear .apart) (goes _ _ _ _ (not-of-true _ (clear .free)) e))
-
-  module _ {m : Marks} (marks : MarksOf (cellAt r b c) m) {h : ℕ} (tokens : h ≡ p + one o) where
-    pub send-empty : h ≡ 0 → Refuse Empty ≡ check r (Send c b t p o d)
-    unfolding check
-    send-empty none = let none : p + one o ≡ 0 = sym tokens ∙ none in past _ _ (search table depth 10)
-
-    module _ (some : h ≡ 0 → ⊥) where
-      filled : p + one o ≡ 0 → ⊥
-      filled e = some (tokens ∙ e)
-
-      pub send-more : m .plain < p → Refuse NotHeld ≡ check r (Send c b t p o d)
-      unfolding check
-      send-more more = let more : cellAt r b c .plain < p = omega (arith, marks .plain) in past _ _ (search (table, filled) depth 10)
-
-      module _ (fewer : p ≤ m .plain) {lacks : Bool} (lacks-is : lacks ≡ (o && not (m .owner))) where
-        has : p ≤ cellAt r b c .plain
-        has = omega (arith, marks .plain)
-
-        owner-is : (o && not (cellAt r b c .owner)) ≡ lacks
-        owner-is = ap (λ (x : Bool). o && not x) (sym (marks .owner)) ∙ sym lacks-is
-
-        pub send-not-owner : lacks ≡ true → Refuse NotHeld ≡ check r (Send c b t p o d)
-        unfolding check
-        send-not-owner e = let lacks-owner : (o && not (cellAt r b c .owner)) ≡ true = owner-is ∙ e in past _ _ (search (table, filled) depth 10)
-
-        module _ (owns : lacks ≡ false) {bare : Bool} (bare-is : bare ≡ (o && not d)) where
-          owned : (o && not (cellAt r b c .owner)) ≡ false
-          owned = owner-is ∙ owns
-
-          pub send-bare : bare ≡ true → Refuse BareOwner ≡ check r (Send c b t p o d)
-          unfolding check
-          send-bare e = let alone : (o && not d) ≡ true = sym bare-is ∙ e in past _ _ (search (table, filled, has, owned) depth 10)
-
-          module _ (covered : bare ≡ false) {stale : Bool} (stale-is : stale ≡ (d && not (m .valid))) where
-            with-data : (o && not d) ≡ false
-            with-data = sym bare-is ∙ covered
-
-            valid-is : (d && not (cellAt r b c .valid)) ≡ stale
-            valid-is = ap (λ (x : Bool). d && not x) (sym (marks .valid)) ∙ sym stale-is
-
-            pub send-no-data : stale ≡ true → Refuse NoData ≡ check r (Send c b t p o d)
-            unfolding check
-            send-no-data e = let lacks-data : (d && not (cellAt r b c .valid)) ≡ true = valid-is ∙ e in past _ _ (search (table, filled, has, owned, with-data) depth 10)
-
-            module _ (valid : stale ≡ false) {f : Bool} (full-is : f ≡ meshFull r) where
-              has-data : (d && not (cellAt r b c .valid)) ≡ false
-              has-data = valid-is ∙ valid
-
-              pub send-full : f ≡ true → Refuse MeshFull ≡ check r (Send c b t p o d)
-              unfolding check
-              send-full e = let full : meshFull r ≡ true = sym full-is ∙ e in past _ _ (search (table, filled, has, owned, with-data, has-data) depth 10)
-
-              pub send-pass : f ≡ false → Pass ≡ check r (Send c b t p o d)
-              unfolding check
-              send-pass e = let room : meshFull r ≡ false = sym full-is ∙ e in past _ _ (search (table, filled, has, owned, with-data, has-data) depth 10)
 
 -- ---- deliver
 

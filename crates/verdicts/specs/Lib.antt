@@ -1,4 +1,3 @@
-pub mod Clear
 pub mod Sendable
 pub mod Apply
 pub mod Verdict
