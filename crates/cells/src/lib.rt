@@ -8,6 +8,7 @@ ghost use Rattle.record.specs.Record.{get, put};
 ghost use Rattle.record.specs.Needs.{InCell};
 ghost use Rattle.record.specs.Changes.{MarksOf, marked, filled, onCell};
 use record::Marks;
+use record::byte;
 use record::tokens;
 use record::words;
 
@@ -25,9 +26,9 @@ pub fn marks_of(rec: &[u8], block: u8, component: u8) -> Marks
 {
     let at = cell_place(block, component);
     Marks {
-        plain: rec[at],
-        owner: rec[at + 1] == 1,
-        valid: rec[at + 2] == 1,
+        plain: byte(rec, at, 0),
+        owner: byte(rec, at, 1) == 1,
+        valid: byte(rec, at, 2) == 1,
     }
 }
 
@@ -65,7 +66,8 @@ pub fn set_word(rec: &mut [u8], block: u8, component: u8, index: u8, value: u32)
     ensures { λ r. ⌜ now (rec .exit) ≡ put (stored (get (now (rec .entry))) component block index value) (now (rec .entry)) ⌝ }
 {
     let at = cell_place(block, component);
-    words::put_word(rec, at + 3 + 4 * (index as usize), value);
+    let place = at + 3 + 4 * (index as usize);
+    words::put_word(rec, place, value);
 }
 
 // All words of a cell.

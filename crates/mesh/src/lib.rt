@@ -10,8 +10,7 @@ ghost use Rattle.record.specs.Record.{message, get, put};
 ghost use Rattle.record.specs.Needs.{Whole};
 ghost use Rattle.record.specs.Changes.{withMesh};
 use protocol::Message;
-use record::Marks;
-use record::tokens;
+use record::byte;
 use record::words;
 
 // The message at a position.
@@ -22,12 +21,12 @@ pub fn message_at(rec: &[u8], position: u8) -> Message
     let at = 4 + 38 * (position as usize);
     let values = words::words_at(rec, at + 6);
     Message {
-        sender: rec[at],
-        target: rec[at + 1],
-        block: rec[at + 2],
-        plain: rec[at + 3],
-        owner: rec[at + 4] == 1,
-        data: rec[at + 5] == 1,
+        sender: byte(rec, at, 0),
+        target: byte(rec, at, 1),
+        block: byte(rec, at, 2),
+        plain: byte(rec, at, 3),
+        owner: byte(rec, at, 4) == 1,
+        data: byte(rec, at, 5) == 1,
         words: values,
     }
 }
@@ -41,16 +40,11 @@ fn put_message(s: &mut [u8], at: usize, m: Message)
     s[at] = m.sender;
     s[at + 1] = m.target;
     s[at + 2] = m.block;
-    tokens::put_marks(
-        s,
-        at + 3,
-        Marks {
-            plain: m.plain,
-            owner: m.owner,
-            valid: m.data,
-        },
-    );
-    words::put_words(s, at + 6, values);
+    s[at + 3] = m.plain;
+    s[at + 4] = m.owner as u8;
+    s[at + 5] = m.data as u8;
+    let place = at + 6;
+    words::put_words(s, place, values);
 }
 
 // One message more, as the newest.
@@ -59,7 +53,8 @@ pub fn append(rec: &mut [u8], m: Message)
     ensures { λ r. ⌜ now (rec .exit) ≡ put (withMesh (get (now (rec .entry))) (get (now (rec .entry)) .mesh ++ m ∷ [])) (now (rec .entry)) ⌝ }
 {
     let count = rec[3];
-    put_message(rec, 4 + 38 * (count as usize), m);
+    let at = 4 + 38 * (count as usize);
+    put_message(rec, at, m);
     rec[3] = count + 1;
 }
 
@@ -83,6 +78,8 @@ pub fn remove(rec: &mut [u8], position: u8)
     let count = rec[3];
     let left = count - 1;
     let behind = left - position;
-    move_up(rec, 4 + 38 * (position as usize), 38 * (behind as usize));
+    let at = 4 + 38 * (position as usize);
+    let bytes = 38 * (behind as usize);
+    move_up(rec, at, bytes);
     rec[3] = left;
 }

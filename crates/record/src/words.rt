@@ -45,7 +45,9 @@ pub fn put_words(s: &mut [u8], at: usize, values: [u32; 8])
 {
     let mut i: usize = 0;
     while i < 8 {
-        put_word(s, at + 4 * i, values[i]);
+        let place = at + 4 * i;
+        let value = values[i];
+        put_word(s, place, value);
         i += 1;
     }
 }

@@ -8,14 +8,14 @@ use Rattle.cells.proofs.set_word.Tie as tie
 cell-place-requires : tie.Need-cell-place-requires
 cell-place-requires c κs = search needs
 
-add-put-word : tie.Need-add-put-word
-add-put-word c = search needs
+add-place : tie.Need-add-place
+add-place c = search needs
 
-mul-put-word : tie.Need-mul-put-word
-mul-put-word c = search needs
+mul-place : tie.Need-mul-place
+mul-place c = search needs
 
-add-put-word-2 : tie.Need-add-put-word-2
-add-put-word-2 c = search needs
+add-place-2 : tie.Need-add-place-2
+add-place-2 c = search needs
 
 put-word-requires : tie.Need-put-word-requires
 put-word-requires c κs = search needs
@@ -34,9 +34,9 @@ set-word-spec =
     tie.close
     (tie.spec
     cell-place-requires
-    add-put-word
-    mul-put-word
-    add-put-word-2
+    add-place
+    mul-place
+    add-place-2
     put-word-requires
     same-length
     returns)

@@ -1,24 +1,19 @@
 -- `figures::cell_fine` meets its contract: its tests are those of the cell's bytes.
 use mathlib.Core.Path.{sym}
+use native.Mathlib.Nat.{add-zero}
 use Rattle.figures.proofs.Fine.{cell-is}
 use borrow.Author.Needs.{needs}
 use Rattle.figures.proofs.cell_fine.Statement.{statement}
 use Rattle.figures.proofs.cell_fine.Tie as tie
 
-shared-slice-read-plain : tie.Need-shared-slice-read-plain
-shared-slice-read-plain c = search needs
+byte-requires : tie.Need-byte-requires
+byte-requires c κs = search needs
 
-add-owner : tie.Need-add-owner
-add-owner c = search needs
+byte-requires-2 : tie.Need-byte-requires-2
+byte-requires-2 c κs = search needs
 
-shared-slice-read-owner : tie.Need-shared-slice-read-owner
-shared-slice-read-owner c = search needs
-
-add-valid : tie.Need-add-valid
-add-valid c = search needs
-
-shared-slice-read-valid : tie.Need-shared-slice-read-valid
-shared-slice-read-valid c = search needs
+byte-requires-3 : tie.Need-byte-requires-3
+byte-requires-3 c κs = search needs
 
 wide-requires : tie.Need-wide-requires
 wide-requires c κs = search needs
@@ -40,18 +35,26 @@ both-requires c κs = search needs
 
 returns : tie.Need-returns
 returns c = let s = c .before .before .before .before .before .before .before .before .before .args in
-    rw (c .both .ensures, c .before .before .marks-fine .ensures, c .before .wide3 .ensures .0, c .before .before .before .before .wide .ensures .0, c .before .before .before .wide2 .ensures .0)
+    rw (
+      c .both .ensures,
+      c .before .before .marks-fine .ensures,
+      c .before .wide3 .ensures .0,
+      c .before .before .before .before .wide .ensures .0,
+      c .before .before .before .wide2 .ensures .0,
+      c .before .before .before .before .before .before .before .byte .ensures,
+      c .before .before .before .before .before .before .byte2 .ensures,
+      c .before .before .before .before .before .byte3 .ensures,
+      add-zero (s .at),
+    )
     (sym (cell-is (s .rec .now) (s .at)))
 
 pub cell-fine-spec : {M : Type 1} → statement M
 cell-fine-spec =
     tie.close
     (tie.spec
-    shared-slice-read-plain
-    add-owner
-    shared-slice-read-owner
-    add-valid
-    shared-slice-read-valid
+    byte-requires
+    byte-requires-2
+    byte-requires-3
     wide-requires
     wide-requires-2
     add-held

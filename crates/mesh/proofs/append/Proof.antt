@@ -12,14 +12,14 @@ use Rattle.mesh.proofs.append.Tie as tie
 slice-read-count : tie.Need-slice-read-count
 slice-read-count c = search needs
 
-cast-put-message : tie.Need-cast-put-message
-cast-put-message c = search needs
+cast-at : tie.Need-cast-at
+cast-at c = search needs
 
-mul-put-message : tie.Need-mul-put-message
-mul-put-message c = search needs
+mul-at : tie.Need-mul-at
+mul-at c = search needs
 
-add-put-message : tie.Need-add-put-message
-add-put-message c = search needs
+add-at : tie.Need-add-at
+add-at c = search needs
 
 put-message-requires : tie.Need-put-message-requires
 put-message-requires c κs = search needs
@@ -44,9 +44,9 @@ append-spec =
     tie.close
     (tie.spec
     slice-read-count
-    cast-put-message
-    mul-put-message
-    add-put-message
+    cast-at
+    mul-at
+    add-at
     put-message-requires
     add-rec
     slice-write-rec

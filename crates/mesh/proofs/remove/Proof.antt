@@ -18,17 +18,17 @@ sub-left c = search needs
 sub-behind : tie.Need-sub-behind
 sub-behind c = search needs
 
-mul-move-up : tie.Need-mul-move-up
-mul-move-up c = search needs
+mul-at : tie.Need-mul-at
+mul-at c = search needs
 
-add-move-up : tie.Need-add-move-up
-add-move-up c = search needs
+add-at : tie.Need-add-at
+add-at c = search needs
 
-cast-move-up : tie.Need-cast-move-up
-cast-move-up c = search needs
+cast-bytes : tie.Need-cast-bytes
+cast-bytes c = search needs
 
-mul-move-up-2 : tie.Need-mul-move-up-2
-mul-move-up-2 c = search needs
+mul-bytes : tie.Need-mul-bytes
+mul-bytes c = search needs
 
 move-up-requires : tie.Need-move-up-requires
 move-up-requires c κs = search needs
@@ -52,10 +52,10 @@ remove-spec =
     slice-read-count
     sub-left
     sub-behind
-    mul-move-up
-    add-move-up
-    cast-move-up
-    mul-move-up-2
+    mul-at
+    add-at
+    cast-bytes
+    mul-bytes
     move-up-requires
     slice-write-rec
     same-length

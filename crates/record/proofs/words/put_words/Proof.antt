@@ -18,17 +18,17 @@ abbrev μ-loop : tie.MeasureT-loop
 loop-holds : tie.Need-loop-holds Inv-loop μ-loop
 loop-holds c = (search needs, (refl, sym (cut (c .before .args .at) 32 (c .before .args .s .now))))
 
-mul-put-word : tie.Need-mul-put-word Inv-loop μ-loop
-mul-put-word c = search needs
+mul-place : tie.Need-mul-place Inv-loop μ-loop
+mul-place c = search needs
 
-add-put-word : tie.Need-add-put-word Inv-loop μ-loop
-add-put-word c = search needs
+add-place : tie.Need-add-place Inv-loop μ-loop
+add-place c = search needs
 
-mul-put-word-2 : tie.Need-mul-put-word-2 Inv-loop μ-loop
-mul-put-word-2 c = search needs
+mul-value : tie.Need-mul-value Inv-loop μ-loop
+mul-value c = search needs
 
-array-read-put-word : tie.Need-array-read-put-word Inv-loop μ-loop
-array-read-put-word c = search needs
+array-read-value : tie.Need-array-read-value Inv-loop μ-loop
+array-read-value c = search needs
 
 put-word-requires : tie.Need-put-word-requires Inv-loop μ-loop
 put-word-requires c κs = search needs
@@ -66,10 +66,10 @@ put-words-spec =
     Inv-loop
     μ-loop
     loop-holds
-    mul-put-word
-    add-put-word
-    mul-put-word-2
-    array-read-put-word
+    mul-place
+    add-place
+    mul-value
+    array-read-value
     put-word-requires
     add-i
     loop-less
