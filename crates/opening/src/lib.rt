@@ -5,26 +5,11 @@ ghost use lib.ListN.{length, replicate};
 ghost use Rattle.layout.specs.Layout.{over};
 ghost use Rattle.protocol.specs.Rack.{freshBlock, fresh};
 ghost use Rattle.record.specs.Record.{recordLength, block, put};
-ghost use Rattle.opening.specs.Opening.{openCheck, openTold, openAfter};
-use base::wide;
+ghost use Rattle.opening.specs.Opening.{openTold, openAfter};
 use protocol::Answer;
 use protocol::Reply;
 use record::sizes;
-use refusals::Check;
 use refusals::Refusal;
-
-// The verdict on an opening in a buffer of a length.
-fn open_check(length: usize, boards: u32, blocks: u32, tokens: u32) -> Check
-    ensures { λ r. ⌜ r ≡ openCheck boards blocks tokens length ⌝ }
-{
-    if !sizes::in_range(boards, blocks, tokens) {
-        return Check::Refuse(Refusal::Size);
-    }
-    if length < 2436 + 592 * (blocks as usize) {
-        return Check::Refuse(Refusal::ShortBuffer);
-    }
-    Check::Pass
-}
 
 // Makes bytes from a place on 0.
 fn clear(s: &mut [u8], at: usize, count: usize)
@@ -39,28 +24,28 @@ fn clear(s: &mut [u8], at: usize, count: usize)
 }
 
 // Writes the fresh block at a place: home holds all tokens, valid.
-fn open_block(rec: &mut [u8], at: usize, boards: u8, tokens: u8)
-    requires { ⌜ (boards < 16) × (1 ≤ tokens) × (at + 592 ≤ length (now rec)) ⌝ }
+fn open_block(rec: &mut [u8], at: usize, boards: u32, tokens: u32)
+    requires { ⌜ (boards < 16) × (1 ≤ tokens) × (tokens ≤ 64) × (at + 592 ≤ length (now rec)) ⌝ }
     ensures { λ r. ⌜ now (rec .exit) ≡ over at 592 (block boards .write (freshBlock boards tokens)) (now (rec .entry)) ⌝ }
 {
-    let components = wide(boards) as usize + 1;
+    let components = boards as usize + 1;
     clear(rec, at, 35 * components);
-    rec[at] = tokens - 1;
+    rec[at] = (tokens - 1) as u8;
     rec[at + 1] = 1;
     rec[at + 2] = 1;
     clear(rec, at + 560, 2 * components);
 }
 
 // Writes the fresh record.
-fn write_fresh(rec: &mut [u8], boards: u8, blocks: u8, tokens: u8)
-    requires { ⌜ (boards < 16) × (1 ≤ tokens) × (recordLength blocks ≤ length (now rec)) ⌝ }
+fn write_fresh(rec: &mut [u8], boards: u32, blocks: u32, tokens: u32)
+    requires { ⌜ (boards < 16) × (1 ≤ tokens) × (tokens ≤ 64) × (blocks ≤ 32) × (recordLength blocks ≤ length (now rec)) ⌝ }
     ensures { λ r. ⌜ now (rec .exit) ≡ put (fresh boards blocks tokens) (now (rec .entry)) ⌝ }
 {
-    rec[0] = boards;
-    rec[1] = blocks;
-    rec[2] = tokens;
+    rec[0] = boards as u8;
+    rec[1] = blocks as u8;
+    rec[2] = tokens as u8;
     rec[3] = 0;
-    let count = wide(blocks) as usize;
+    let count = blocks as usize;
     let mut b: usize = 0;
     while b < count {
         open_block(rec, 2436 + 592 * b, boards, tokens);
@@ -73,11 +58,12 @@ pub fn open(rec: &mut [u8], boards: u32, blocks: u32, tokens: u32) -> Reply
     ensures reply { λ r. ⌜ r ≡ openTold boards blocks tokens (now (rec .entry)) ⌝ }
     ensures buffer { λ r. ⌜ now (rec .exit) ≡ openAfter boards blocks tokens (now (rec .entry)) ⌝ }
 {
-    match open_check(rec.len(), boards, blocks, tokens) {
-        Check::Refuse(refusal) => Reply::Refused(refusal),
-        Check::Pass => {
-            write_fresh(rec, boards as u8, blocks as u8, tokens as u8);
-            Reply::Accepted(Answer::Done)
-        }
+    if !sizes::in_range(boards, blocks, tokens) {
+        return Reply::Refused(Refusal::Size);
     }
+    if rec.len() < 2436 + 592 * (blocks as usize) {
+        return Reply::Refused(Refusal::ShortBuffer);
+    }
+    write_fresh(rec, boards, blocks, tokens);
+    Reply::Accepted(Answer::Done)
 }

@@ -1,71 +1,65 @@
--- `open` meets its contract: where the check passes, the sizes fit a byte and the record has room.
+-- `open` meets its contract: each test that refuses does so by its line, and past both the sizes fit a byte and the record has room.
 use native.Mathlib.Omega.{arith}
-use mathlib.Core.Path.{sym, _∙_}
-use borrow.Author.Needs.{needs}
+use mathlib.Core.Path.{_≡_, sym, _∙_}
+use mathlib.Core.Bool.{true}
+use borrow.Author.Tests.{not-true, not-false}
 use lib.ListN.{length}
-use Rattle.opening.proofs.Opened.{Sized, sized, open-refused, open-accepted}
+use Rattle.refusals.specs.declared.Check.the-variants.{Pass}
+use Rattle.protocol.specs.Sound.{sizes}
+use Rattle.opening.specs.Opening.{openCheck}
+use Rattle.opening.proofs.Opened.{open-size, open-short, open-pass, sized, open-refused, open-accepted}
+use borrow.Author.Needs.{needs}
 use Rattle.opening.proofs.open.Statement.{statement}
 use Rattle.opening.proofs.open.Tie as tie
-use Rattle.opening.proofs.open.Reads as reads
-use Rattle.opening.proofs.open.Lts as lts
-use Rattle.opening.proofs.open_check.Reads as open-check-reads
-use Rattle.opening.proofs.write_fresh.Reads as write-fresh-reads
 
--- the check has passed
-fit : (c : lts.After-write-fresh-arg (open-check-reads.Asked, open-check-reads.Learnt, write-fresh-reads.Asked, write-fresh-reads.Learnt) reads.Pre reads.Post)
-    → let s = c .before .before .before .before .before in Sized (s .args .boards) (s .args .blocks) (s .args .tokens) (length (s .args .rec .now))
-fit c =
-    let s = c .before .before .before .before .before in
-    sized (s .args .boards) (s .args .blocks) (s .args .tokens) (length (s .args .rec .now)) (sym (c .before .before .before .open-check .ensures) ∙ c .before .enum-told .given .1)
+-- past the first test the sizes are in range, past the second the opening is accepted
+range : (c : tie.Else1) → sizes (c .before .before .before .args .boards) (c .before .before .before .args .blocks) (c .before .before .before .args .tokens) ≡ true
+range c = sym (c .before .in-range .ensures) ∙ not-false _ (c .if1 .left)
 
-open-check-requires : tie.Need-open-check-requires
-open-check-requires c κs = search needs
+pass : (c : tie.Else2) → let a = c .before .before .before .before .args in openCheck (a .boards) (a .blocks) (a .tokens) (length (a .rec .now)) ≡ Pass
+pass c = sym (open-pass _ _ _ _ (range (c .before)) (omega arith))
 
-enum-known-refusal : tie.Need-enum-known-refusal
-enum-known-refusal c = search needs
-
-enum-told : tie.Need-enum-told
-enum-told c = search needs
-
-cast-write-fresh : tie.Need-cast-write-fresh
-cast-write-fresh c = omega (arith, fit c .boards)
-
-cast-write-fresh-2 : tie.Need-cast-write-fresh-2
-cast-write-fresh-2 c = omega (arith, fit c .blocks)
-
-cast-write-fresh-3 : tie.Need-cast-write-fresh-3
-cast-write-fresh-3 c = omega (arith, fit c .tokens)
-
-write-fresh-requires : tie.Need-write-fresh-requires
-write-fresh-requires c κs = (fit c .boards, fit c .some, fit c .room)
+in-range-requires : tie.Need-in-range-requires
+in-range-requires c κs = search needs
 
 returns : tie.Need-returns
-returns c =
-    let s = c .before .before .before .before .before in
-    let e = open-refused (s .args .boards) (s .args .blocks) (s .args .tokens) (s .args .rec .now) _ (sym (c .before .before .before .open-check .ensures) ∙ c .before .refusal .given .1) in
+returns c = let a = c .before .before .before .args in
+    let e = open-refused (a .boards) (a .blocks) (a .tokens) (a .rec .now) _ (sym (open-size _ _ _ _ (sym (c .before .in-range .ensures) ∙ not-true _ (c .if1 .taken)))) in
     (sym (e .0), sym (e .1))
+
+mul-if2 : tie.Need-mul-if2
+mul-if2 c = search needs
+
+add-if2 : tie.Need-add-if2
+add-if2 c = search needs
+
+returns-2 : tie.Need-returns-2
+returns-2 c = let a = c .before .before .before .before .args in
+    let e = open-refused (a .boards) (a .blocks) (a .tokens) (a .rec .now) _ (sym (open-short _ _ _ _ (range (c .before)) (omega arith))) in
+    (sym (e .0), sym (e .1))
+
+write-fresh-requires : tie.Need-write-fresh-requires
+write-fresh-requires c κs = let a = c .before .before .before .before .before .args in
+    let z = sized (a .boards) (a .blocks) (a .tokens) (length (a .rec .now)) (pass (c .before)) in
+    (z .boards, z .some, z .tokens, z .blocks, z .room)
 
 same-length : tie.Need-same-length
 same-length c = search needs
 
-returns-2 : tie.Need-returns-2
-returns-2 c =
-    let s = c .before .before .before .before .before .before .before .before in
-    let e = open-accepted (s .args .boards) (s .args .blocks) (s .args .tokens) (s .args .rec .now)
-    (sym (c .before .before .before .before .before .before .open-check .ensures) ∙ c .before .before .before .before .enum-told .given .1) in
+returns-3 : tie.Need-returns-3
+returns-3 c = let a = c .before .before .before .before .before .before .before .before .args in
+    let e = open-accepted (a .boards) (a .blocks) (a .tokens) (a .rec .now) (pass (c .before .before .before .before)) in
     (sym (e .0), c .before .before .write-fresh .ensures ∙ sym (e .1))
 
 pub open-spec : {M : Type 1} → statement M
 open-spec =
     tie.close
     (tie.spec
-    open-check-requires
-    enum-known-refusal
-    enum-told
-    cast-write-fresh
-    cast-write-fresh-2
-    cast-write-fresh-3
-    write-fresh-requires
+    in-range-requires
     returns
+    mul-if2
+    add-if2
+    returns-2
+    write-fresh-requires
     same-length
-    returns-2)
+    returns-3)

@@ -1,16 +1,10 @@
 -- `open_block` meets its contract: what it stores is what the layout writes of a fresh block.
 use native.Mathlib.Omega.{arith}
-use borrow.Author.Needs.{needs}
 use lib.ListN.{length-set}
 use Rattle.opening.proofs.FreshBytes.{block-is}
+use borrow.Author.Needs.{needs}
 use Rattle.opening.proofs.open_block.Statement.{statement}
 use Rattle.opening.proofs.open_block.Tie as tie
-
-wide-requires : tie.Need-wide-requires
-wide-requires c κs = search needs
-
-cast-components : tie.Need-cast-components
-cast-components c = search needs
 
 add-components : tie.Need-add-components
 add-components c = search needs
@@ -23,6 +17,9 @@ clear-requires c κs = search needs
 
 sub-rec : tie.Need-sub-rec
 sub-rec c = search needs
+
+cast-rec : tie.Need-cast-rec
+cast-rec c = search needs
 
 slice-write-rec : tie.Need-slice-write-rec
 slice-write-rec c = search needs
@@ -52,23 +49,20 @@ same-length : tie.Need-same-length
 same-length c = omega (arith, simp length-set at (c .before .before .clear2 .kept .0))
 
 returns : tie.Need-returns
-returns c =
-    let s = c .before .before .before .before .before .before .before .before .before .before in
-    let n = c .before .before .before .before .before .before .before .before .wide .ensures .0 in
-    block-is (s .args .boards) (s .args .tokens) (omega arith) (omega arith) (s .args .at) (s .args .rec .now) (s .pre .2)
+returns c = let s = c .before .before .before .before .before .before .before .before .before in
+    block-is (s .args .boards) (s .args .tokens) (omega arith) (omega arith) (s .args .at) (s .args .rec .now) (s .pre .3)
     (c .before .before .before .before .before .before .clear .last .0) (c .before .before .clear2 .last .0)
-    (rw n at (c .before .before .before .before .before .before .clear .ensures)) (rw n at (c .before .before .clear2 .ensures))
+    (c .before .before .before .before .before .before .clear .ensures) (c .before .before .clear2 .ensures)
 
 pub open-block-spec : {M : Type 1} → statement M
 open-block-spec =
     tie.close
     (tie.spec
-    wide-requires
-    cast-components
     add-components
     mul-clear
     clear-requires
     sub-rec
+    cast-rec
     slice-write-rec
     add-rec
     slice-write-rec-2

@@ -2,7 +2,6 @@
 use Prim.Native.Nat.{_≤_, _-_}
 use native.Mathlib.Omega.{arith}
 use mathlib.Core.Path.{_≡_}
-use borrow.Author.Needs.{needs}
 use lib.ListN.{length-set}
 use Rattle.opening.proofs.FreshBytes.{opening, open-none, open-more, open-kept, open-all}
 use Rattle.opening.proofs.write_fresh.Statement.{statement}
@@ -14,11 +13,20 @@ Inv-loop rec₀ boards blocks tokens count b₀ rec b = (b ≤ blocks) × (rec �
 abbrev μ-loop : tie.MeasureT-loop
 μ-loop rec₀ boards blocks tokens count b₀ rec b = blocks - b
 
+cast-rec : tie.Need-cast-rec Inv-loop μ-loop
+cast-rec c = omega arith
+
 slice-write-rec : tie.Need-slice-write-rec Inv-loop μ-loop
 slice-write-rec c = omega arith
 
+cast-rec-2 : tie.Need-cast-rec-2 Inv-loop μ-loop
+cast-rec-2 c = omega arith
+
 slice-write-rec-2 : tie.Need-slice-write-rec-2 Inv-loop μ-loop
 slice-write-rec-2 c = simp length-set (omega arith)
+
+cast-rec-3 : tie.Need-cast-rec-3 Inv-loop μ-loop
+cast-rec-3 c = omega arith
 
 slice-write-rec-3 : tie.Need-slice-write-rec-3 Inv-loop μ-loop
 slice-write-rec-3 c = simp length-set (omega arith)
@@ -26,14 +34,8 @@ slice-write-rec-3 c = simp length-set (omega arith)
 slice-write-rec-4 : tie.Need-slice-write-rec-4 Inv-loop μ-loop
 slice-write-rec-4 c = simp length-set (omega arith)
 
-wide-requires : tie.Need-wide-requires Inv-loop μ-loop
-wide-requires c κs = search needs
-
-cast-count : tie.Need-cast-count Inv-loop μ-loop
-cast-count c = search needs
-
 loop-holds : tie.Need-loop-holds Inv-loop μ-loop
-loop-holds c = (omega arith, open-none (c .before .before .args .boards) (c .before .before .args .blocks) (c .before .before .args .tokens) _)
+loop-holds c = (omega arith, open-none (c .before .args .boards) (c .before .args .blocks) (c .before .args .tokens) _)
 
 mul-open-block : tie.Need-mul-open-block Inv-loop μ-loop
 mul-open-block c = omega arith
@@ -43,9 +45,9 @@ add-open-block c = omega arith
 
 open-block-requires : tie.Need-open-block-requires Inv-loop μ-loop
 open-block-requires c κs =
-    let s = c .before .before .before .before .before in
+    let s = c .before .before .before .before in
     let l = c .before .before .loop in
-    (s .pre .0, s .pre .1, omega (arith, open-kept (s .args .boards) (s .args .blocks) (s .args .tokens) (s .args .rec .now) (s .pre .0) (s .pre .2) (l .b) (l .rec) (l .inv .1)))
+    (s .pre .0, s .pre .1, s .pre .2, omega (arith, open-kept (s .args .boards) (s .args .blocks) (s .args .tokens) (s .args .rec .now) (s .pre .0) (s .pre .4) (l .b) (l .rec) (l .inv .1)))
 
 add-b : tie.Need-add-b Inv-loop μ-loop
 add-b c = omega arith
@@ -55,23 +57,23 @@ loop-less c = omega arith
 
 loop-again : tie.Need-loop-again Inv-loop μ-loop
 loop-again c =
-    let s = c .before .before .before .before .before .before .before .before in
+    let s = c .before .before .before .before .before .before .before in
     let l = c .before .before .before .before .before .loop in (
       omega arith,
-      open-more (s .args .boards) (s .args .blocks) (s .args .tokens) (s .args .rec .now) (s .pre .0) (s .pre .2) (l .b) (l .rec) (l .inv .1) (c .before .before .open-block .last .0) (omega arith) (c .before .before .open-block .ensures),
+      open-more (s .args .boards) (s .args .blocks) (s .args .tokens) (s .args .rec .now) (s .pre .0) (s .pre .4) (l .b) (l .rec) (l .inv .1) (c .before .before .open-block .last .0) (omega arith) (c .before .before .open-block .ensures),
     )
 
 same-length : tie.Need-same-length Inv-loop μ-loop
 same-length c =
-    let s = c .before .before .before .before in
+    let s = c .before .before .before in
     let l = c .before .loop in
-    open-kept (s .args .boards) (s .args .blocks) (s .args .tokens) (s .args .rec .now) (s .pre .0) (s .pre .2) (l .b) (l .rec) (l .inv .1)
+    open-kept (s .args .boards) (s .args .blocks) (s .args .tokens) (s .args .rec .now) (s .pre .0) (s .pre .4) (l .b) (l .rec) (l .inv .1)
 
 returns : tie.Need-returns Inv-loop μ-loop
 returns c =
-    let s = c .before .before .before .before in
+    let s = c .before .before .before in
     let l = c .before .loop in
-    open-all (s .args .boards) (s .args .blocks) (s .args .tokens) (s .args .rec .now) (s .pre .0) (s .pre .2) (l .b) (l .rec) (l .inv .1) (omega arith)
+    open-all (s .args .boards) (s .args .blocks) (s .args .tokens) (s .args .rec .now) (s .pre .0) (s .pre .4) (l .b) (l .rec) (l .inv .1) (omega arith)
 
 pub write-fresh-spec : {M : Type 1} → statement M
 write-fresh-spec =
@@ -79,12 +81,13 @@ write-fresh-spec =
     (tie.spec
     Inv-loop
     μ-loop
+    cast-rec
     slice-write-rec
+    cast-rec-2
     slice-write-rec-2
+    cast-rec-3
     slice-write-rec-3
     slice-write-rec-4
-    wide-requires
-    cast-count
     loop-holds
     mul-open-block
     add-open-block
