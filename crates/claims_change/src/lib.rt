@@ -14,7 +14,8 @@ pub fn raise_at(rec: &mut [u8], at: usize, board: u8)
     ensures { λ r. ⌜ ((n : ℕ) → n < 16 → now (rec .exit) ≡ putClaims n at (raised (claimsAt n at (now (rec .entry))) board) (now (rec .entry))) ⌝ }
 {
     let w = read_set(rec, at);
-    write_set(rec, at, sets::insert(w, board));
+    let more = sets::insert(w, board);
+    write_set(rec, at, more);
 }
 
 // The board leaves the waiting set and every barring set; its own barring set becomes the waiting set that remains.
@@ -25,10 +26,13 @@ pub fn lower_at(rec: &mut [u8], at: usize, boards: u8, board: u8)
     let count = boards as usize + 1;
     let mut i = 0;
     while i < count {
-        let s = read_set(rec, at + 2 * i);
-        write_set(rec, at + 2 * i, sets::remove(s, board));
+        let place = at + 2 * i;
+        let s = read_set(rec, place);
+        let left = sets::remove(s, board);
+        write_set(rec, place, left);
         i += 1;
     }
     let rest = read_set(rec, at);
-    write_set(rec, at + 2 * (board as usize), rest);
+    let own = at + 2 * (board as usize);
+    write_set(rec, own, rest);
 }

@@ -29,11 +29,14 @@ fn open_block(rec: &mut [u8], at: usize, boards: u32, tokens: u32)
     ensures { λ r. ⌜ now (rec .exit) ≡ over at 592 (block boards .write (freshBlock boards tokens)) (now (rec .entry)) ⌝ }
 {
     let components = boards as usize + 1;
-    clear(rec, at, 35 * components);
+    let cells = 35 * components;
+    let sets = 2 * components;
+    let behind = at + 560;
+    clear(rec, at, cells);
     rec[at] = (tokens - 1) as u8;
     rec[at + 1] = 1;
     rec[at + 2] = 1;
-    clear(rec, at + 560, 2 * components);
+    clear(rec, behind, sets);
 }
 
 // Writes the fresh record.
@@ -48,7 +51,8 @@ fn write_fresh(rec: &mut [u8], boards: u32, blocks: u32, tokens: u32)
     let count = blocks as usize;
     let mut b: usize = 0;
     while b < count {
-        open_block(rec, 2436 + 592 * b, boards, tokens);
+        let at = 2436 + 592 * b;
+        open_block(rec, at, boards, tokens);
         b += 1;
     }
 }

@@ -20,20 +20,14 @@ loop-holds : tie.Need-loop-holds Inv-loop μ-loop
 loop-holds c = let s = c .before in
     (search needs, lower-none (s .args .boards) (s .args .at) (s .pre .3) (s .args .rec .now) (λ k. c .slice-known .given k .fits) (s .pre .0) (s .args .board))
 
-mul-read-set : tie.Need-mul-read-set Inv-loop μ-loop
-mul-read-set c = search needs
+mul-place : tie.Need-mul-place Inv-loop μ-loop
+mul-place c = search needs
 
-add-read-set : tie.Need-add-read-set Inv-loop μ-loop
-add-read-set c = search needs
+add-place : tie.Need-add-place Inv-loop μ-loop
+add-place c = search needs
 
 read-set-requires : tie.Need-read-set-requires Inv-loop μ-loop
 read-set-requires c κs = search needs
-
-mul-write-set : tie.Need-mul-write-set Inv-loop μ-loop
-mul-write-set c = search needs
-
-add-write-set : tie.Need-add-write-set Inv-loop μ-loop
-add-write-set c = search needs
 
 remove-requires : tie.Need-remove-requires Inv-loop μ-loop
 remove-requires c κs = search needs
@@ -52,17 +46,17 @@ loop-again c = let s = c .before .before .before .before .before .before .before
     let l = c .before .before .before .before .before .before .before .before .loop in (
       search needs,
       lower-more (s .args .boards) (s .args .at) (s .pre .3) (s .args .rec .now) (λ k. c .before .before .before .before .before .before .before .before .before .slice-known .given k .fits) (s .pre .0) (s .args .board) (l .i) _ _ _ _ (omega arith) (l .inv .1)
-          (c .before .before .before .before .before .read-set .ensures) (c .before .before .before .remove .ensures) (search needs) (c .before .before .write-set .ensures),
+          (c .before .before .before .before .before .read-set .ensures) (c .before .before .before .before .remove .ensures) (search needs) (c .before .before .write-set .ensures),
     )
 
 read-set-requires-2 : tie.Need-read-set-requires-2 Inv-loop μ-loop
 read-set-requires-2 c κs = search needs
 
-mul-write-set-2 : tie.Need-mul-write-set-2 Inv-loop μ-loop
-mul-write-set-2 c = search needs
+mul-own : tie.Need-mul-own Inv-loop μ-loop
+mul-own c = search needs
 
-add-write-set-2 : tie.Need-add-write-set-2 Inv-loop μ-loop
-add-write-set-2 c = search needs
+add-own : tie.Need-add-own Inv-loop μ-loop
+add-own c = search needs
 
 write-set-requires-2 : tie.Need-write-set-requires-2 Inv-loop μ-loop
 write-set-requires-2 c κs = search needs
@@ -86,19 +80,17 @@ lower-at-spec =
     μ-loop
     add-count
     loop-holds
-    mul-read-set
-    add-read-set
+    mul-place
+    add-place
     read-set-requires
-    mul-write-set
-    add-write-set
     remove-requires
     write-set-requires
     add-i
     loop-less
     loop-again
     read-set-requires-2
-    mul-write-set-2
-    add-write-set-2
+    mul-own
+    add-own
     write-set-requires-2
     same-length
     returns)

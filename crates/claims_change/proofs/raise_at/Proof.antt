@@ -19,7 +19,7 @@ same-length c = search needs
 returns : tie.Need-returns
 returns c = λ n f. let s = c .before .before .before .before .before .before .before .before in
     raise-is n (s .args .at) f (s .args .rec .now) (λ k. c .before .before .before .before .before .before .before .slice-known .given k .fits) (s .pre .0) (s .args .board)
-    _ _ _ (c .before .before .before .before .before .read-set .ensures) (c .before .before .before .insert .ensures) (search needs) (c .before .before .write-set .ensures)
+    _ _ _ (c .before .before .before .before .before .read-set .ensures) (c .before .before .before .before .insert .ensures) (search needs) (c .before .before .write-set .ensures)
 
 pub raise-at-spec : {M : Type 1} → statement M
 raise-at-spec =

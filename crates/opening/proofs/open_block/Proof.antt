@@ -9,8 +9,14 @@ use Rattle.opening.proofs.open_block.Tie as tie
 add-components : tie.Need-add-components
 add-components c = search needs
 
-mul-clear : tie.Need-mul-clear
-mul-clear c = search needs
+mul-cells : tie.Need-mul-cells
+mul-cells c = search needs
+
+mul-sets : tie.Need-mul-sets
+mul-sets c = search needs
+
+add-behind : tie.Need-add-behind
+add-behind c = search needs
 
 clear-requires : tie.Need-clear-requires
 clear-requires c κs = search needs
@@ -36,12 +42,6 @@ add-rec-2 c = search needs
 slice-write-rec-3 : tie.Need-slice-write-rec-3
 slice-write-rec-3 c = simp length-set (omega arith)
 
-add-clear : tie.Need-add-clear
-add-clear c = search needs
-
-mul-clear-2 : tie.Need-mul-clear-2
-mul-clear-2 c = search needs
-
 clear-requires-2 : tie.Need-clear-requires-2
 clear-requires-2 c κs = simp length-set (omega arith)
 
@@ -59,7 +59,9 @@ open-block-spec =
     tie.close
     (tie.spec
     add-components
-    mul-clear
+    mul-cells
+    mul-sets
+    add-behind
     clear-requires
     sub-rec
     cast-rec
@@ -68,8 +70,6 @@ open-block-spec =
     slice-write-rec-2
     add-rec-2
     slice-write-rec-3
-    add-clear
-    mul-clear-2
     clear-requires-2
     same-length
     returns)

@@ -37,11 +37,11 @@ slice-write-rec-4 c = simp length-set (omega arith)
 loop-holds : tie.Need-loop-holds Inv-loop μ-loop
 loop-holds c = (omega arith, open-none (c .before .args .boards) (c .before .args .blocks) (c .before .args .tokens) _)
 
-mul-open-block : tie.Need-mul-open-block Inv-loop μ-loop
-mul-open-block c = omega arith
+mul-at : tie.Need-mul-at Inv-loop μ-loop
+mul-at c = omega arith
 
-add-open-block : tie.Need-add-open-block Inv-loop μ-loop
-add-open-block c = omega arith
+add-at : tie.Need-add-at Inv-loop μ-loop
+add-at c = omega arith
 
 open-block-requires : tie.Need-open-block-requires Inv-loop μ-loop
 open-block-requires c κs =
@@ -89,8 +89,8 @@ write-fresh-spec =
     slice-write-rec-3
     slice-write-rec-4
     loop-holds
-    mul-open-block
-    add-open-block
+    mul-at
+    add-at
     open-block-requires
     add-b
     loop-less
