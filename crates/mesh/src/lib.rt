@@ -10,7 +10,9 @@ ghost use Rattle.record.specs.Record.{message, get, put};
 ghost use Rattle.record.specs.Needs.{Whole};
 ghost use Rattle.record.specs.Changes.{withMesh};
 use protocol::Message;
+use record::Marks;
 use record::byte;
+use record::tokens;
 use record::words;
 
 // The message at a position.
@@ -40,11 +42,16 @@ fn put_message(s: &mut [u8], at: usize, m: Message)
     s[at] = m.sender;
     s[at + 1] = m.target;
     s[at + 2] = m.block;
-    s[at + 3] = m.plain;
-    s[at + 4] = m.owner as u8;
-    s[at + 5] = m.data as u8;
-    let place = at + 6;
-    words::put_words(s, place, values);
+    tokens::put_marks(
+        s,
+        at + 3,
+        Marks {
+            plain: m.plain,
+            owner: m.owner,
+            valid: m.data,
+        },
+    );
+    words::put_words(s, at + 6, values);
 }
 
 // One message more, as the newest.

@@ -108,19 +108,20 @@ unfolding cell
 cell-write p n o v ws s l = load-write p n o v ws s l
 
 pub message-write : (p : ℕ) (m : Message) (s : List ℕ) → p + 38 ≤ length s
-    → over (p + 6) 32 (words .write (m .words))
-    (set (set (set (set (set (set s p (m .sender)) (p + 1) (m .target)) (p + 2) (m .block)) (p + 3) (m .plain)) (p + 4) (one (m .owner))) (p + 5) (one (m .«data»)))
+    → over (p + 6) 32 (words .write (m .words)) (over (p + 3) 3 (tokens .write (m .plain, (m .owner, m .«data»))) (set (set (set s p (m .sender)) (p + 1) (m .target)) (p + 2) (m .block)))
     ≡ over p 38 (message .write m) s
 unfolding message
 message-write p m s l =
     let s₁ : List ℕ = set (set (set s p (m .sender)) (p + 1) (m .target)) (p + 2) (m .block) in
-    let p₄ : p + 4 ≡ p + 3 + 1 = omega arith in
-    let p₅ : p + 5 ≡ p + 3 + 2 = omega arith in
     let p₆ : p + 6 ≡ p + 3 + 3 = omega arith in
-    (λ i. over (p₆ i) 32 (words .write (m .words)) (set (set (set s₁ (p + 3) (m .plain)) (p₄ i) (one (m .owner))) (p₅ i) (one (m .«data»))))
-    ∙ ap (over (p + 3 + 3) 32 (words .write (m .words))) (tokens-write (p + 3) (m .plain) (m .owner) (m .«data») s₁ (simp length-set (omega arith)))
+    ap (λ (q : ℕ). over q 32 (words .write (m .words)) (over (p + 3) 3 (tokens .write (m .plain, (m .owner, m .«data»))) s₁)) p₆
     ∙ load-write (p + 3) (m .plain) (m .owner) (m .«data») (m .words) s₁ (simp length-set (omega arith))
     ∙ ap (over (p + 3) 35 (load .write (fromMessage m .1))) (ends-write p (m .sender) (m .target) (m .block) s (omega arith))
     ∙ ap (λ (k : ℕ). over (p + 3) k (load .write (fromMessage m .1)) (over p 3 (ends .write (fromMessage m .0)) s)) (sym load-size)
     ∙ sym (write-pair ends load p s ends-lawful (fromMessage m) (rw load-size l))
     ∙ ap (λ (k : ℕ). over p (3 + k) (message .write m) s) load-size
+
+-- ---- what the functions on messages cite
+
+pub same-three : (s : List ℕ) (p a b c : ℕ) → length (set (set (set s p a) (p + 1) b) (p + 2) c) ≡ length s
+same-three s p a b c = simp length-set

@@ -1,8 +1,11 @@
--- `mesh::put_message` meets its contract: six bytes one after the other, then the words.
+-- `mesh::put_message` meets its contract: sender, target and block, then the marks, then the words.
 use lib.ListN.{length-set}
 use native.Mathlib.Omega.{arith}
-use mathlib.Core.Path.{_∙_}
-use Rattle.record.proofs.Writing.{message-write}
+use Rattle.record.specs.Record.{words}
+use Rattle.layout.specs.Layout.{over}
+use Prim.Native.Nat.{_+_}
+use mathlib.Core.Path.{ap, _∙_}
+use Rattle.record.proofs.Writing.{message-write, same-three}
 use borrow.Author.Needs.{needs}
 use Rattle.mesh.proofs.put_message.Statement.{statement}
 use Rattle.mesh.proofs.put_message.Tie as tie
@@ -22,42 +25,27 @@ add-s-2 c = search needs
 slice-write-s-3 : tie.Need-slice-write-s-3
 slice-write-s-3 c = simp length-set (omega arith)
 
-add-s-3 : tie.Need-add-s-3
-add-s-3 c = search needs
+add-put-marks : tie.Need-add-put-marks
+add-put-marks c = search needs
 
-slice-write-s-4 : tie.Need-slice-write-s-4
-slice-write-s-4 c = simp length-set (omega arith)
+put-marks-requires : tie.Need-put-marks-requires
+put-marks-requires c κs = simp length-set (omega arith)
 
-cast-s : tie.Need-cast-s
-cast-s c = search needs
-
-add-s-4 : tie.Need-add-s-4
-add-s-4 c = search needs
-
-slice-write-s-5 : tie.Need-slice-write-s-5
-slice-write-s-5 c = simp length-set (omega arith)
-
-cast-s-2 : tie.Need-cast-s-2
-cast-s-2 c = search needs
-
-add-s-5 : tie.Need-add-s-5
-add-s-5 c = search needs
-
-slice-write-s-6 : tie.Need-slice-write-s-6
-slice-write-s-6 c = simp length-set (omega arith)
-
-add-place : tie.Need-add-place
-add-place c = search needs
+add-put-words : tie.Need-add-put-words
+add-put-words c = search needs
 
 put-words-requires : tie.Need-put-words-requires
-put-words-requires c κs = simp length-set (omega arith)
+put-words-requires c κs = omega (arith, c .before .before .before .put-marks .kept .0, same-three (c .before .before .before .before .before .before .before .args .s .now) (c .before .before .before .before .before .before .before .args .at) (c .before .before .before .before .before .before .before .args .m .sender) (c .before .before .before .before .before .before .before .args .m .target) (c .before .before .before .before .before .before .before .args .m .block))
 
 same-length : tie.Need-same-length
-same-length c = c .before .before .put-words .kept .0 ∙ simp length-set
+same-length c = c .before .before .put-words .kept .0 ∙ c .before .before .before .before .before .before .put-marks .kept .0 ∙ same-three (c .before .before .before .before .before .before .before .before .before .before .args .s .now) (c .before .before .before .before .before .before .before .before .before .before .args .at) (c .before .before .before .before .before .before .before .before .before .before .args .m .sender) (c .before .before .before .before .before .before .before .before .before .before .args .m .target) (c .before .before .before .before .before .before .before .before .before .before .args .m .block)
 
 returns : tie.Need-returns
-returns c = let s = c .before .before .before .before .before .before .before .before in
-    c .before .before .put-words .ensures ∙ message-write (s .args .at) (s .args .m) (s .args .s .now) (s .pre)
+returns c = let s = c .before .before .before .before .before .before .before .before .before .before in
+    let a = s .args in
+    c .before .before .put-words .ensures
+    ∙ ap (over (a .at + 6) 32 (words .write (a .m .words))) (c .before .before .before .before .before .before .put-marks .ensures)
+    ∙ message-write (a .at) (a .m) (a .s .now) (s .pre)
 
 pub put-message-spec : {M : Type 1} → statement M
 put-message-spec =
@@ -68,15 +56,9 @@ put-message-spec =
     slice-write-s-2
     add-s-2
     slice-write-s-3
-    add-s-3
-    slice-write-s-4
-    cast-s
-    add-s-4
-    slice-write-s-5
-    cast-s-2
-    add-s-5
-    slice-write-s-6
-    add-place
+    add-put-marks
+    put-marks-requires
+    add-put-words
     put-words-requires
     same-length
     returns)
