@@ -17,15 +17,15 @@ unfoldable pub decimal : ℕ → ℕ → List ℕ
 decimal zero n = digit (n % 10) ∷ []
 decimal (suc k) n = cond (ltb n 10) (digit n ∷ []) (decimal k (n / 10) ++ digit (n % 10) ∷ [])
 
--- the lowest k hexadecimal digits of a number
-unfoldable pub hexadecimal : ℕ → ℕ → List ℕ
-hexadecimal zero n = []
-hexadecimal (suc k) n = hexadecimal k (n / 16) ++ digit (n % 16) ∷ []
+-- the lowest k digits of a number in a base
+unfoldable pub digits : ℕ → ℕ → ℕ → List ℕ
+digits b zero n = []
+digits b (suc k) n = digits b k (n / b) ++ digit (n % b) ∷ []
 
 -- `ok`, `v` with eight hexadecimal digits, or `r` with the refusal's number
 unfoldable pub said : Reply → List ℕ
 said (Accepted Done) = 111 ∷ 107 ∷ []
-said (Accepted (Word w)) = 118 ∷ hexadecimal 8 w
+said (Accepted (Word w)) = 118 ∷ digits 16 8 w
 said (Refused r) = 114 ∷ decimal 1 (number r)
 
 -- a line: the index, a space, what is said, a newline

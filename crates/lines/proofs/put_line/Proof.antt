@@ -1,50 +1,56 @@
--- `lines::put_line` meets its contract: the index, a space, what is said and a newline are placed one after the other.
+-- `lines::put_line` meets its contract: the index and a space, a letter, and digits and a newline are placed one after the other.
 use native.Mathlib.Omega.{arith}
-use Rattle.lines.proofs.Lines.{length-decimal, length-said, line-placed}
+use mathlib.Core.Path.{_∙_}
+use lib.ListN.{length-set}
+use Rattle.lines.proofs.Lines.{line-placed}
 use borrow.Author.Needs.{needs}
 use Rattle.lines.proofs.put_line.Statement.{statement}
 use Rattle.lines.proofs.put_line.Tie as tie
 
-put-decimal-requires : tie.Need-put-decimal-requires
-put-decimal-requires c κs = search needs
+told-requires : tie.Need-told-requires
+told-requires c κs = search needs
 
-put-requires : tie.Need-put-requires
-put-requires c κs =
-    let d = c .before .before .before .put-decimal in
-    let s = c .before .before .before .before .before .before in
-    omega (arith, s .pre, d .ensures .0, d .kept .0, length-decimal 4 (s .args .index))
+width-requires : tie.Need-width-requires
+width-requires c κs = search needs
 
-put-said-requires : tie.Need-put-said-requires
-put-said-requires c κs =
-    let p = c .before .before .before .put in
-    let d = c .before .before .before .before .before .before .before .put-decimal in
-    let s = c .before .before .before .before .before .before .before .before .before .before in
-    omega (arith, s .pre, d .ensures .0, d .kept .0, p .ensures .0, p .kept .0, length-decimal 4 (s .args .index))
+put-digits-requires : tie.Need-put-digits-requires
+put-digits-requires c κs = search needs
 
-put-requires-2 : tie.Need-put-requires-2
-put-requires-2 c κs =
-    let t = c .before .before .before .put-said in
-    let p = c .before .before .before .before .before .before .before .put in
-    let d = c .before .before .before .before .before .before .before .before .before .before .before .put-decimal in
-    let s = c .before .before .before .before .before .before .before .before .before .before .before .before .before .before in
-    omega (arith, s .pre, d .ensures .0, d .kept .0, p .ensures .0, p .kept .0, t .ensures .0, t .kept .0, length-decimal 4 (s .args .index), length-said (s .args .reply))
+slice-write-out : tie.Need-slice-write-out
+slice-write-out c = search needs
+
+add-put-digits : tie.Need-add-put-digits
+add-put-digits c = search needs
+
+put-digits-requires-2 : tie.Need-put-digits-requires-2
+put-digits-requires-2 c κs =
+    let s = c .before .before .before .before .before .before .before .before in
+    let put = c .before .before .before .put-digits in
+    let told = c .before .before .before .before .before .before .told .ensures in (
+      simp length-set (omega (arith, s .pre, put .ensures .0, put .kept .0, c .before .before .before .before .width .ensures .1, told .3)),
+      told .1,
+      told .2,
+    )
 
 same-length : tie.Need-same-length
-same-length c = search needs
+same-length c = c .before .before .put-digits2 .kept .0 ∙ simp length-set (c .before .before .before .before .before .before .put-digits .kept .0)
 
 returns : tie.Need-returns
 returns c =
-    let s = c .before .before .before .before .before .before .before .before .before .before .before .before .before .before .before .before .before in
-    line-placed (s .args .at) _ _ _ _ (s .args .index) (s .args .reply) (s .args .out .now) _ _ _ _ (s .pre)
-    (c .before .before .before .before .before .before .before .before .before .before .before .before .before .before .put-decimal .ensures) (c .before .before .before .before .before .before .before .before .before .before .put .ensures) (c .before .before .before .before .before .before .put-said .ensures) (c .before .before .put2 .ensures)
+    let s = c .before .before .before .before .before .before .before .before .before .before .before in
+    line-placed (s .args .at) _ (s .args .index) _ _ _ _ _ (s .args .reply) (s .args .out .now) _ _ (s .pre)
+    (c .before .before .before .before .before .before .before .width .ensures .0) (c .before .before .before .before .before .before .before .before .before .told .ensures .0)
+    (c .before .before .before .before .before .before .put-digits .ensures) _ (c .before .before .put-digits2 .ensures)
 
 pub put-line-spec : {M : Type 1} → statement M
 put-line-spec =
     tie.close
     (tie.spec
-    put-decimal-requires
-    put-requires
-    put-said-requires
-    put-requires-2
+    told-requires
+    width-requires
+    put-digits-requires
+    slice-write-out
+    add-put-digits
+    put-digits-requires-2
     same-length
     returns)
