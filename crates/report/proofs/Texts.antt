@@ -1,20 +1,18 @@
--- Laws of the text: that a run of lines goes on, and what the text and the record are in each case of the opening.
+-- Laws of the text: that a run of lines goes on, what the opening tells, and that its line and the steps' make the whole.
 use Prim.Native.Nat.{ℕ, suc, _+_, _*_, _-_, _/_, _≤_, _<_, min}
 use native.Mathlib.Nat.{add-zero, zero-add}
 use native.Mathlib.Numerals.{add-one}
 use native.Mathlib.Omega.{arith}
 use mathlib.Core.Path.{_≡_, refl, sym, ap, _∙_}
-use mathlib.Core.Bool.{Bool, cond}
-use mathlib.Core.List.{List, [], _∷_, _++_, append-nil}
-use lib.ListN.{length, getD, take, drop, length-append, length-drop}
-use lib.Seq.{drop-drop, take-take, take-all, length-take-le}
+use mathlib.Core.Bool.{cond}
+use mathlib.Core.List.{List, [], _∷_, _++_}
+use lib.ListN.{length, getD, take, drop, length-append, length-drop, length-take}
+use lib.Seq.{drop-drop, drop-at, getD-take, take-add, take-all, length-take-le}
 use lib.Dec.{ltb}
 use borrow.Author.Tests.{lt-ltb, le-ltb}
 use native.Mathlib.Decide.{decLe}
-use Rattle.base.proofs.Lists.{rest-all}
 use Rattle.base.specs.Placing.{place}
-use Rattle.base.proofs.Placing.{length-place, place-none, place-more, Placed, placed-same}
-use Rattle.refusals.specs.declared.Refusal.{Refusal}
+use Rattle.base.proofs.Placing.{length-place, place-none, place-more, Placed, placed-more, placed-same}
 use Rattle.refusals.specs.declared.Refusal.the-variants.{Torn}
 use Rattle.protocol.specs.declared.Answer.{Answer}
 use Rattle.protocol.specs.declared.Reply.{Reply}
@@ -26,7 +24,7 @@ use Rattle.judging.specs.Step.{stepTold, stepAfter}
 use Rattle.cuts.specs.Cut.{cutAt, cuts}
 use Rattle.judging.specs.Lists.{replies, after}
 use Rattle.cuts.proofs.Cutting.{cuts-first, cuts-none, span}
-use Rattle.report.specs.Text.{lines, stepLines, text, afterSteps, held}
+use Rattle.report.specs.Text.{lines, stepLines, told, opened, start, text, afterSteps, held}
 
 -- ---- the steps' lines
 
@@ -157,114 +155,112 @@ module _ (list : List ℕ) where
             sym (g .rest ∙ goal-none k rec pos made l),
           )
 
+-- ---- the opening
+
+-- its three bytes are among those that are used
+short-used : (input : List ℕ) → ltb (length (take 65536 input)) 3 ≡ ltb (length input) 3
+short-used input = by (decLe 3 (length input))
+  where
+    by : Dec (3 ≤ length input) → ltb (length (take 65536 input)) 3 ≡ ltb (length input) 3
+    by (yes h) = le-ltb (length (take 65536 input)) 3 (omega (arith, length-take 65536 input)) ∙ sym (le-ltb (length input) 3 h)
+    by (no h) = lt-ltb (length (take 65536 input)) 3 (omega (arith, h, length-take 65536 input)) ∙ sym (lt-ltb (length input) 3 (omega (arith, h)))
+
+byte-used : (input : List ℕ) (i : ℕ) → i < 65536 → getD (take 65536 input) i 0 ≡ getD input i 0
+byte-used input i h = getD-take 65536 input i 0 h
+
+module _ (s input : List ℕ) where
+  told-used : told s (take 65536 input) ≡ told s input
+  unfolding told
+  told-used = λ i. cond (short-used input i) (Refused Torn) (openTold (byte-used input 0 (omega arith) i) (byte-used input 1 (omega arith) i) (byte-used input 2 (omega arith) i) s)
+
+  opened-used : opened s (take 65536 input) ≡ opened s input
+  unfolding opened
+  opened-used = λ i. cond (short-used input i) s (openAfter (byte-used input 0 (omega arith) i) (byte-used input 1 (omega arith) i) (byte-used input 2 (omega arith) i) s)
+
+  pub opening-torn : length input < 3 → (Refused Torn ≡ told s input) × (s ≡ opened s input)
+  unfolding told opened
+  opening-torn l = rw (lt-ltb (length input) 3 l) (refl, refl)
+
+  pub opening-made : 3 ≤ length input → (n b t : ℕ) → n ≡ getD input 0 0 → b ≡ getD input 1 0 → t ≡ getD input 2 0 → (r : Reply) (rec : List ℕ)
+      → (r ≡ openTold n b t s) × (rec ≡ openAfter n b t s) → (r ≡ told s input) × (rec ≡ opened s input)
+  unfolding told opened
+  opening-made l n b t en eb et r rec (p, q) = rw (le-ltb (length input) 3 l) (p ∙ (λ i. openTold (en i) (eb i) (et i) s), q ∙ (λ i. openAfter (en i) (eb i) (et i) s))
+
+  accepted-long : (a : Answer) → Accepted a ≡ told s input → 3 ≤ length input
+  accepted-long a e = by (decLe 3 (length input))
+    where
+      by : Dec (3 ≤ length input) → 3 ≤ length input
+      by (yes h) = h
+      by (no h) = let torn = opening-torn (omega (arith, h)) .0 in let z : _≡_ {A = ℕ} 0 1 = cc in absurd (omega arith)
+
 -- ---- the whole text
 
--- after an opening with the first three bytes
-abbrev opening : List ℕ → List ℕ → List ℕ
-opening s u =
-    line 0 (openTold (getD u 0 0) (getD u 1 0) (getD u 2 0) s)
-    ++ stepLines (openTold (getD u 0 0) (getD u 1 0) (getD u 2 0) s) (openAfter (getD u 0 0) (getD u 1 0) (getD u 2 0) s) (drop 3 u)
+module _ (s input : List ℕ) (n : ℕ) (is : n ≡ min 65536 (length input)) where
+  used-is : take n input ≡ take 65536 input
+  used-is = by (decLe 65536 (length input))
+    where
+      by : Dec (65536 ≤ length input) → take n input ≡ take 65536 input
+      by (yes h) = let e : n ≡ 65536 = omega arith in ap (λ (k : ℕ). take k input) e
+      by (no h) = take-all n input (omega (arith, h)) ∙ sym (take-all 65536 input (omega (arith, h)))
 
--- of the bytes that are used
-abbrev body : List ℕ → List ℕ → List ℕ
-body s u = cond (ltb (length u) 3) (line 0 (Refused Torn)) (opening s u)
+  module _ (from : ℕ) where
+    -- the bytes of the steps
+    abbrev pub steps : List ℕ
+    steps = take (n - from) (drop from input)
 
-text-is : (s input : List ℕ) → text s input ≡ body s (take 65536 input)
-unfolding text
-text-is s input = refl
+    steps-none : from ≡ n → steps ≡ []
+    steps-none e = let z : n - from ≡ 0 = omega arith in ap (λ (k : ℕ). take k (drop from input)) z
 
--- the bytes that are used, used again
-used-again : (input : List ℕ) (n : ℕ) → n ≡ min 65536 (length input) → take 65536 (take n input) ≡ take 65536 input
-used-again input n e = by (decLe 65536 (length input))
-  where
-    by : Dec (65536 ≤ length input) → take 65536 (take n input) ≡ take 65536 input
-    by (yes h) = take-take 65536 n input (omega arith)
-    by (no h) = ap (take 65536) (take-all n input (omega (arith, h)))
+    steps-all : 3 ≤ length input → from ≡ 3 → steps ≡ drop 3 (take 65536 input)
+    steps-all l e =
+        let m : 3 + (n - 3) ≡ n = omega arith in
+        ap (λ (k : ℕ). take (n - k) (drop k input)) e
+        ∙ sym (drop-at (take 3 input) (take (n - 3) (drop 3 input)) 3 (length-take-le 3 input l))
+        ∙ ap (drop 3) (sym (take-add 3 (n - 3) input) ∙ ap (λ (k : ℕ). take k input) m ∙ used-is)
 
-pub text-used : (s input : List ℕ) (n : ℕ) → n ≡ min 65536 (length input) → text s (take n input) ≡ text s input
-text-used s input n e = text-is s (take n input) ∙ ap (body s) (used-again input n e) ∙ sym (text-is s input)
+    -- the steps start inside, and their lines and what they leave are those of the text
+    pub record Given (r : Reply) (rec : List ℕ) : Type 0 where
+      pub inside : from ≤ n
+      pub few : length steps ≤ 65533
+      pub told-lines : lines 1 (replies rec (cuts 65536 steps)) ≡ stepLines r rec (drop 3 (take 65536 input))
+      pub rest : after rec (cuts 65536 steps) ≡ afterSteps r rec (drop 3 (take 65536 input))
 
-module _ (s input : List ℕ) (most : length input ≤ 65536) where
-  whole : body s input ≡ text s input
-  whole = sym (text-is s input ∙ ap (body s) (take-all 65536 input most))
+    pub given : (rec : List ℕ) (r : Reply) → r ≡ told s input → from ≡ start r n → Given r rec
+    given rec (Accepted a) e f =
+        let l : 3 ≤ length input = accepted-long s input a e in
+        record {
+          inside = omega arith;
+          few = omega (arith, ap length (steps-all l f), length-drop 3 (take 65536 input), length-take 65536 input);
+          told-lines = ap (λ (u : List ℕ). lines 1 (replies rec (cuts 65536 u))) (steps-all l f);
+          rest = ap (λ (u : List ℕ). after rec (cuts 65536 u)) (steps-all l f);
+        }
+    given rec (Refused x) e f =
+        let none : cuts 65536 steps ≡ [] = cuts-none 65536 steps (ap length (steps-none f)) in
+        record {
+          inside = omega arith;
+          few = omega (arith, ap length (steps-none f));
+          told-lines = ap (λ (c : List (List ℕ)). lines 1 (replies rec c)) none ∙ ap (lines 1) (replies-none rec) ∙ lines-none 1;
+          rest = ap (after rec) none ∙ after-none rec;
+        }
 
-  pub text-torn : length input < 3 → line 0 (Refused Torn) ≡ text s input
-  text-torn l = sym (ap (λ (t : Bool). cond t (line 0 (Refused Torn)) (opening s input)) (lt-ltb (length input) 3 l)) ∙ whole
+    module _ (rec : List ℕ) (r : Reply) (er : r ≡ told s input) (ef : from ≡ start r n) where
+      pub steps-room : (at : ℕ) → at ≡ 0 + length (line 0 r) → (length steps ≤ 65536) × (at + 16 * ((length steps + 2) / 3) ≤ 349536)
+      steps-room at e = let g = given rec r er ef in (omega arith, omega (arith, g .few, length-line 0 r))
 
-  module _ (some : 3 ≤ length input) (n b t : ℕ) (en : n ≡ getD input 0 0) (eb : b ≡ getD input 1 0) (et : t ≡ getD input 2 0) (told : Reply) (rec : List ℕ) (e : told ≡ openTold n b t s) (er : rec ≡ openAfter n b t s) where
-    text-opened : line 0 told ++ stepLines told rec (drop 3 input) ≡ text s input
-    text-opened =
-        let e′ : told ≡ openTold (getD input 0 0) (getD input 1 0) (getD input 2 0) s = e ∙ (λ i. openTold (en i) (eb i) (et i) s) in
-        let er′ : rec ≡ openAfter (getD input 0 0) (getD input 1 0) (getD input 2 0) s = er ∙ (λ i. openAfter (en i) (eb i) (et i) s) in
-        (λ i. line 0 (e′ i) ++ stepLines (e′ i) (er′ i) (drop 3 input))
-        ∙ sym (ap (λ (t : Bool). cond t (line 0 (Refused Torn)) (opening s input)) (le-ltb (length input) 3 some))
-        ∙ whole
-
-    pub text-refused : (r : Refusal) → told ≡ Refused r → line 0 told ≡ text s input
-    text-refused r k = sym (append-nil (line 0 told)) ∙ ap (λ (x : Reply). line 0 told ++ stepLines x rec (drop 3 input)) (sym k) ∙ text-opened
-
-    pub text-accepted : (a : Answer) → told ≡ Accepted a → line 0 told ++ lines 1 (replies rec (cuts 65536 (take (length input - 3) (drop 3 input)))) ≡ text s input
-    text-accepted a k =
-        ap (λ (l : List ℕ). line 0 told ++ lines 1 (replies rec (cuts 65536 l))) (rest-all input 3)
-        ∙ ap (λ (x : Reply). line 0 told ++ stepLines x rec (drop 3 input)) (sym k)
-        ∙ text-opened
-
--- ---- the record afterwards
-
--- after an opening with the first three bytes
-abbrev openedHeld : List ℕ → List ℕ → List ℕ
-openedHeld s u = afterSteps (openTold (getD u 0 0) (getD u 1 0) (getD u 2 0) s) (openAfter (getD u 0 0) (getD u 1 0) (getD u 2 0) s) (drop 3 u)
-
--- of the bytes that are used
-abbrev remains : List ℕ → List ℕ → List ℕ
-remains s u = cond (ltb (length u) 3) s (openedHeld s u)
-
-remains-is : (s input : List ℕ) → held s input ≡ remains s (take 65536 input)
-unfolding held
-remains-is s input = refl
-
-pub held-used : (s input : List ℕ) (n : ℕ) → n ≡ min 65536 (length input) → held s (take n input) ≡ held s input
-held-used s input n e = remains-is s (take n input) ∙ ap (remains s) (used-again input n e) ∙ sym (remains-is s input)
-
-module _ (s input : List ℕ) (most : length input ≤ 65536) where
-  all-held : remains s input ≡ held s input
-  all-held = sym (remains-is s input ∙ ap (remains s) (take-all 65536 input most))
-
-  pub held-torn : length input < 3 → s ≡ held s input
-  held-torn l = sym (ap (λ (t : Bool). cond t s (openedHeld s input)) (lt-ltb (length input) 3 l)) ∙ all-held
-
-  module _ (some : 3 ≤ length input) (n b t : ℕ) (en : n ≡ getD input 0 0) (eb : b ≡ getD input 1 0) (et : t ≡ getD input 2 0) (told : Reply) (rec : List ℕ) (e : told ≡ openTold n b t s) (er : rec ≡ openAfter n b t s) where
-    held-opened : afterSteps told rec (drop 3 input) ≡ held s input
-    held-opened =
-        let e′ : told ≡ openTold (getD input 0 0) (getD input 1 0) (getD input 2 0) s = e ∙ (λ i. openTold (en i) (eb i) (et i) s) in
-        let er′ : rec ≡ openAfter (getD input 0 0) (getD input 1 0) (getD input 2 0) s = er ∙ (λ i. openAfter (en i) (eb i) (et i) s) in
-        (λ i. afterSteps (e′ i) (er′ i) (drop 3 input))
-        ∙ sym (ap (λ (t : Bool). cond t s (openedHeld s input)) (le-ltb (length input) 3 some))
-        ∙ all-held
-
-    pub held-refused : (r : Refusal) → told ≡ Refused r → rec ≡ held s input
-    held-refused r k = ap (λ (x : Reply). afterSteps x rec (drop 3 input)) (sym k) ∙ held-opened
-
-    pub held-accepted : (a : Answer) → told ≡ Accepted a → after rec (cuts 65536 (take (length input - 3) (drop 3 input))) ≡ held s input
-    held-accepted a k =
-        ap (λ (l : List ℕ). after rec (cuts 65536 l)) (rest-all input 3)
-        ∙ ap (λ (x : Reply). afterSteps x rec (drop 3 input)) (sym k)
-        ∙ held-opened
-
--- a text from the start of the buffer on
-pub text-placed : (next : ℕ) (bs t out out′ : List ℕ) → bs ≡ t → Placed 0 bs out next out′ → (next ≡ length t) × (out′ ≡ place 0 t out)
-text-placed next bs t out out′ e p = let q = placed-same 0 next bs t out out′ e p in (q .0 ∙ zero-add (length t), q .1)
-
-pub steps-room : (input : List ℕ) (part old new at : ℕ) (r : Reply) → length input ≤ 65536 → 349536 ≤ old → new ≡ old → 3 ≤ length input → at ≡ 0 + length (line 0 r)
-    → part ≡ length (take (length input - 3) (drop 3 input)) → (part ≤ 65536) × (at + 16 * ((part + 2) / 3) ≤ new)
-steps-room input part old new at r h k same some e is =
-    let l : part ≡ length input - 3 = is ∙ ap length (rest-all input 3) ∙ length-drop 3 input in
-    (omega arith, omega (arith, length-line 0 r))
-
-pub used-length : (input : List ℕ) (n : ℕ) → n ≡ min 65536 (length input) → (n ≡ length (take n input)) × (length (take n input) ≤ 65536)
-used-length input n e =
-    let l : length (take n input) ≡ n = length-take-le n input (omega arith) in
-    (sym l, omega arith)
+      pub whole : rec ≡ opened s input → (at last : ℕ) (out out₁ out₂ rec′ : List ℕ) → Placed 0 (line 0 r) out at out₁
+          → Placed at (lines 1 (replies rec (cuts 65536 steps))) out₁ last out₂ → rec′ ≡ after rec (cuts 65536 steps)
+          → ((last ≡ length (text s input)) × (out₂ ≡ place 0 (text s input) out)) × (rec′ ≡ held s input)
+      unfolding text held
+      whole eo at last out out₁ out₂ rec′ p q k =
+          let g = given rec r er ef in
+          let er′ : r ≡ told s (take 65536 input) = er ∙ sym (told-used s input) in
+          let eo′ : rec ≡ opened s (take 65536 input) = eo ∙ sym (opened-used s input) in
+          let t = placed-same 0 last (line 0 r ++ lines 1 (replies rec (cuts 65536 steps))) (text s input) out out₂
+          (ap (λ (l : List ℕ). line 0 r ++ l) (g .told-lines) ∙ (λ i. line 0 (er′ i) ++ stepLines (er′ i) (eo′ i) (drop 3 (take 65536 input))))
+          (placed-more 0 at last (line 0 r) (lines 1 (replies rec (cuts 65536 steps))) out out₁ out₂ (omega arith) p q) in (
+            (t .0 ∙ zero-add (length (text s input)), t .1),
+            k ∙ g .rest ∙ (λ i. afterSteps (er′ i) (eo′ i) (drop 3 (take 65536 input))),
+          )
 
 -- a text that was placed is no longer than the buffer afterwards
 pub placed-fits : (n : ℕ) (t out out′ : List ℕ) → n ≡ length t → out′ ≡ place 0 t out → n ≤ length out′

@@ -26,15 +26,24 @@ abbrev pub stepLines : Reply → List ℕ → List ℕ → List ℕ
 stepLines (Accepted a) s list = lines 1 (replies s (cuts 65536 list))
 stepLines (Refused r) s list = []
 
--- the whole text, with a record in the buffer s: N, B and T, then records; under three bytes the opening is torn
+-- the reply to the opening with N, B and T, the first three bytes, of a record in the buffer s; under three bytes it is torn
+unfoldable pub told : List ℕ → List ℕ → Reply
+told s u = cond (ltb (length u) 3) (Refused Torn) (openTold (getD u 0 0) (getD u 1 0) (getD u 2 0) s)
+
+-- what the buffer holds after the opening
+unfoldable pub opened : List ℕ → List ℕ → List ℕ
+opened s u = cond (ltb (length u) 3) s (openAfter (getD u 0 0) (getD u 1 0) (getD u 2 0) s)
+
+-- where the steps start in an input of so many bytes
+abbrev pub start : Reply → ℕ → ℕ
+start (Accepted a) count = 3
+start (Refused r) count = count
+
+-- the whole text, with a record in the buffer s: the opening's line, then the records'
 unfoldable pub text : List ℕ → List ℕ → List ℕ
 text s input =
     let u = used input in
-    let n = getD u 0 0 in
-    let b = getD u 1 0 in
-    let t = getD u 2 0 in
-    cond (ltb (length u) 3) (line 0 (Refused Torn))
-    (line 0 (openTold n b t s) ++ stepLines (openTold n b t s) (openAfter n b t s) (drop 3 u))
+    line 0 (told s u) ++ stepLines (told s u) (opened s u) (drop 3 u)
 
 -- the record after the steps, where the opening was accepted
 abbrev pub afterSteps : Reply → List ℕ → List ℕ → List ℕ
@@ -45,7 +54,4 @@ afterSteps (Refused r) s list = s
 unfoldable pub held : List ℕ → List ℕ → List ℕ
 held s input =
     let u = used input in
-    let n = getD u 0 0 in
-    let b = getD u 1 0 in
-    let t = getD u 2 0 in
-    cond (ltb (length u) 3) s (afterSteps (openTold n b t s) (openAfter n b t s) (drop 3 u))
+    afterSteps (told s u) (opened s u) (drop 3 u)

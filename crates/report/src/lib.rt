@@ -1,11 +1,11 @@
 // The text of a run, as the program rackrun writes it.
 ghost use mathlib.Core.Path.{_≡_};
-ghost use Prim.Native.Nat.{_+_, _*_, _/_, _≤_, min};
-ghost use lib.ListN.{length};
+ghost use Prim.Native.Nat.{_+_, _*_, _/_, _≤_, _<_, min};
+ghost use lib.ListN.{length, getD};
 ghost use Rattle.base.specs.Placing.{place};
 ghost use Rattle.cuts.specs.Cut.{cuts};
 ghost use Rattle.judging.specs.Lists.{replies, after};
-ghost use Rattle.report.specs.Text.{lines, text, held};
+ghost use Rattle.report.specs.Text.{lines, told, opened, start, text, held};
 use base::wide;
 use protocol::Reply;
 use refusals::Refusal;
@@ -29,20 +29,32 @@ fn put_steps(rec: &mut [u8], list: &[u8], out: &mut [u8], at: usize) -> usize
     to
 }
 
-// Places the text of an input of which every byte is used.
-fn put_text(rec: &mut [u8], input: &[u8], out: &mut [u8]) -> usize
-    requires { ⌜ (length (now input) ≤ 65536) × (349536 ≤ length (now out)) ⌝ }
-    ensures text { λ r. ⌜ (r ≡ length (text (now (rec .entry)) (now (input .entry)))) × (now (out .exit) ≡ place 0 (text (now (rec .entry)) (now (input .entry))) (now (out .entry))) ⌝ }
-    ensures buffer { λ r. ⌜ now (rec .exit) ≡ held (now (rec .entry)) (now (input .entry)) ⌝ }
+// The byte at a place.
+fn byte(input: &[u8], at: usize) -> u32
+    requires { ⌜ at < length (now input) ⌝ }
+    ensures { λ r. ⌜ r ≡ getD (now (input .entry)) at 0 ⌝ }
+{
+    wide(input[at])
+}
+
+// Opens a rack with the first three bytes of an input.
+fn opened(rec: &mut [u8], input: &[u8]) -> Reply
+    ensures told { λ r. ⌜ r ≡ told (now (rec .entry)) (now (input .entry)) ⌝ }
+    ensures buffer { λ r. ⌜ now (rec .exit) ≡ opened (now (rec .entry)) (now (input .entry)) ⌝ }
 {
     if input.len() < 3 {
-        return lines::put_line(out, 0, 0, Reply::Refused(Refusal::Torn));
+        return Reply::Refused(Refusal::Torn);
     }
-    let reply = opening::open(rec, wide(input[0]), wide(input[1]), wide(input[2]));
-    let at = lines::put_line(out, 0, 0, reply);
+    opening::open(rec, byte(input, 0), byte(input, 1), byte(input, 2))
+}
+
+// Where the steps start in an input of so many bytes: there are none where the opening was refused.
+fn start(reply: Reply, count: usize) -> usize
+    ensures { λ r. ⌜ r ≡ start reply count ⌝ }
+{
     match reply {
-        Reply::Accepted(_) => put_steps(rec, &input[3..], out, at),
-        Reply::Refused(_) => at,
+        Reply::Accepted(_) => 3,
+        Reply::Refused(_) => count,
     }
 }
 
@@ -59,5 +71,8 @@ pub fn report(input: &[u8], rec: &mut [u8; 21380], out: &mut [u8; 349536]) -> us
     ensures buffer { λ r. ⌜ now (rec .exit) ≡ held (now (rec .entry)) (now (input .entry)) ⌝ }
 {
     let count = used(input.len());
-    put_text(rec, &input[..count], out)
+    let reply = opened(rec, input);
+    let at = lines::put_line(out, 0, 0, reply);
+    let from = start(reply, count);
+    put_steps(rec, &input[from..count], out, at)
 }
