@@ -3,11 +3,11 @@ use Prim.Native.Nat.{ℕ, _+_, _*_, _≤_, _<_}
 use mathlib.Core.Path.{_≡_, sym, ap, _∙_}
 use mathlib.Core.Bool.{true, false, cond, _||_}
 use mathlib.Core.List.{List}
-use borrow.Author.Tests.{ltb-true, eq-eqb, ne-eqb}
+use borrow.Author.Tests.{ltb-true, ltb-false, leb-false, eq-eqb, ne-eqb}
 use lib.Dec.{eqb, ltb, leb}
 use lib.ListN.{getD}
 use Rattle.base.specs.Folds.{one}
-use Rattle.base.proofs.Tests.{and-l, eqb-one}
+use Rattle.base.proofs.Tests.{and-l, or-l, or-r, eqb-one}
 use Rattle.refusals.specs.declared.Refusal.the-variants.{Unsound, OffRack, Home}
 use Rattle.refusals.specs.declared.Check.{Check}
 use Rattle.refusals.specs.declared.Check.the-variants.{Pass, Refuse}
@@ -46,26 +46,26 @@ module _ (s : List ℕ) (c b : ℕ) (ok : soundBytes s ≡ true) where
   unfolding letterTold letter letterCheck
   letter-is k e = rw (ok, boards-is s, blocks-is s, e)
 
-  pub letter-no-board : getD s 0 0 < c → Lettered.Refused OffRack ≡ letterTold s c b
-  letter-no-board h = letter-is (Refuse OffRack) (search table depth 10)
+  pub letter-off-rack : (ltb (getD s 0 0) c || leb (getD s 1 0) b) ≡ true → Lettered.Refused OffRack ≡ letterTold s c b
+  letter-off-rack h = letter-is (Refuse OffRack) (search table depth 10)
 
-  pub letter-no-block : getD s 1 0 ≤ b → Lettered.Refused OffRack ≡ letterTold s c b
-  letter-no-block h = letter-is (Refuse OffRack) (search table depth 10)
+  module _ (on : (ltb (getD s 0 0) c || leb (getD s 1 0) b) ≡ false) where
+    pub on-rack : (b < getD s 1 0) × (c ≤ getD s 0 0)
+    on-rack = (leb-false (getD s 1 0) b (or-r (ltb (getD s 0 0) c) (leb (getD s 1 0) b) on), ltb-false (getD s 0 0) c (or-l (ltb (getD s 0 0) c) (leb (getD s 1 0) b) on))
 
-  module _ (hb : b < getD s 1 0) (hc : c ≤ getD s 0 0) where
     pub letter-home : c ≡ 0 → Lettered.Refused Home ≡ letterTold s c b
     letter-home h = letter-is (Refuse Home) (search table depth 10)
 
     module _ (bytes : Bytes s) where
       pub letter-formed : cell .formed (part (2436 + 592 * b + 35 * c) 35 s) ≡ true
-      letter-formed = cell-stands s (whole s bytes ok .formed) b c hb hc .formed
+      letter-formed = cell-stands s (whole s bytes ok .formed) b c (on-rack .0) (on-rack .1) .formed
 
       -- t is T, and x the cell's letter
       pub letter-read : (t : ℕ) (x : Letter) → (c ≡ 0 → ⊥) → t ≡ getD s 2 0 → x ≡ letterOf t (cell .read (part (2436 + 592 * b + 35 * c) 35 s))
           → Lettered.Letter x ≡ letterTold s c b
       letter-read t x h et ex =
           ap Lettered.Letter ex
-          ∙ (λ i. Lettered.Letter (letterOf ((et ∙ sym (tokens-is s)) i) (sym (cell-at s (whole s bytes ok .formed) b c hb hc) i)))
+          ∙ (λ i. Lettered.Letter (letterOf ((et ∙ sym (tokens-is s)) i) (sym (cell-at s (whole s bytes ok .formed) b c (on-rack .0) (on-rack .1)) i)))
           ∙ letter-is Pass (search table depth 10)
 
 -- ---- the letter of a cell
