@@ -60,12 +60,10 @@ module _ (s : List ℕ) (c b : ℕ) (ok : soundBytes s ≡ true) where
       pub letter-formed : cell .formed (part (2436 + 592 * b + 35 * c) 35 s) ≡ true
       letter-formed = cell-stands s (whole s bytes ok .formed) b c (on-rack .0) (on-rack .1) .formed
 
-      -- t is T, and x the cell's letter
-      pub letter-read : (t : ℕ) (x : Letter) → (c ≡ 0 → ⊥) → t ≡ getD s 2 0 → x ≡ letterOf t (cell .read (part (2436 + 592 * b + 35 * c) 35 s))
-          → Lettered.Letter x ≡ letterTold s c b
-      letter-read t x h et ex =
+      pub letter-read : (x : Letter) → (c ≡ 0 → ⊥) → x ≡ letterOf (getD s 2 0) (cell .read (part (2436 + 592 * b + 35 * c) 35 s)) → Lettered.Letter x ≡ letterTold s c b
+      letter-read x h ex =
           ap Lettered.Letter ex
-          ∙ (λ i. Lettered.Letter (letterOf ((et ∙ sym (tokens-is s)) i) (sym (cell-at s (whole s bytes ok .formed) b c (on-rack .0) (on-rack .1)) i)))
+          ∙ (λ i. Lettered.Letter (letterOf (sym (tokens-is s) i) (sym (cell-at s (whole s bytes ok .formed) b c (on-rack .0) (on-rack .1)) i)))
           ∙ letter-is Pass (search table depth 10)
 
 -- ---- the letter of a cell

@@ -23,21 +23,22 @@ fn byte(rec: &[u8], at: usize) -> u32
 }
 
 // The letter of the cell at a place.
-fn letter_at(rec: &[u8], at: usize, tokens: u32) -> Letter
+fn letter_at(rec: &[u8], at: usize) -> Letter
     requires { ⌜ (at + 35 ≤ length (now rec)) × (cell .formed (part at 35 (now rec)) ≡ true) ⌝ }
-    ensures { λ r. ⌜ r ≡ letterOf tokens (cell .read (part at 35 (now (rec .entry)))) ⌝ }
+    ensures { λ r. ⌜ r ≡ letterOf (getD (now (rec .entry)) 2 0) (cell .read (part at 35 (now (rec .entry)))) ⌝ }
 {
     let owner = byte(rec, at + 1);
-    if byte(rec, at) + owner == tokens {
+    if byte(rec, at) + owner == byte(rec, 2) {
         return Letter::M;
     }
     if owner == 1 {
         return Letter::O;
     }
     if byte(rec, at + 2) == 1 {
-        return Letter::S;
+        Letter::S
+    } else {
+        Letter::I
     }
-    Letter::I
 }
 
 pub fn letter(rec: &[u8], component: u32, block: u32) -> Lettered
@@ -53,5 +54,5 @@ pub fn letter(rec: &[u8], component: u32, block: u32) -> Lettered
         return Lettered::Refused(Refusal::Home);
     }
     let at = 2436 + 592 * (block as usize) + 35 * (component as usize);
-    Lettered::Letter(letter_at(rec, at, byte(rec, 2)))
+    Lettered::Letter(letter_at(rec, at))
 }

@@ -75,23 +75,19 @@ mul-at-2 c = search needs
 add-at-2 : tie.Need-add-at-2
 add-at-2 c = search needs
 
-byte-requires-3 : tie.Need-byte-requires-3
-byte-requires-3 c κs = omega (arith, fine (c .before .before .before .before .before) .room)
-
 letter-at-requires : tie.Need-letter-at-requires
 letter-at-requires c κs =
-    let s = c .before .before .before .before .before .before .before .before .before in
-    let sized = fine (c .before .before .before .before .before .before) in
-    let within = on-rack (s .args .rec .now) (s .args .component) (s .args .block) (sure (c .before .before .before .before .before .before)) (on (c .before .before)) in (
+    let s = c .before .before .before .before .before .before .before .before in
+    let sized = fine (c .before .before .before .before .before) in
+    let within = on-rack (s .args .rec .now) (s .args .component) (s .args .block) (sure (c .before .before .before .before .before)) (on (c .before)) in (
       omega arith,
-      letter-formed (s .args .rec .now) (s .args .component) (s .args .block) (sure (c .before .before .before .before .before .before)) (on (c .before .before)) (sized .formed .bytes),
+      letter-formed (s .args .rec .now) (s .args .component) (s .args .block) (sure (c .before .before .before .before .before)) (on (c .before)) (sized .formed .bytes),
     )
 
 returns-4 : tie.Need-returns-4
 returns-4 c =
-    let s = c .before .before .before .before .before .before .before .before .before .before in
-    letter-read (s .args .rec .now) (s .args .component) (s .args .block) (sure (c .before .before .before .before .before .before .before)) (on (c .before .before .before)) (fine (c .before .before .before .before .before .before .before) .formed .bytes) (c .before .byte3 .result) (c .letter-at .result)
-    (c .before .before .if3 .left) (c .before .byte3 .ensures .0) (c .letter-at .ensures)
+    let s = c .before .before .before .before .before .before .before .before .before in
+    letter-read (s .args .rec .now) (s .args .component) (s .args .block) (sure (c .before .before .before .before .before .before)) (on (c .before .before)) (fine (c .before .before .before .before .before .before) .formed .bytes) (c .letter-at .result) (c .before .if3 .left) (c .letter-at .ensures)
 
 pub letter-spec : {M : Type 1} → statement M
 letter-spec =
@@ -108,6 +104,5 @@ letter-spec =
     add-at
     mul-at-2
     add-at-2
-    byte-requires-3
     letter-at-requires
     returns-4)
