@@ -1,5 +1,5 @@
 -- `lines::told` meets its contract: each arm knows its reply.
-use mathlib.Core.Path.{sym, ap, _∙_}
+use mathlib.Core.Path.{ap, _∙_}
 use native.Mathlib.Omega.{arith}
 use Rattle.protocol.specs.declared.Reply.the-variants.{Accepted}
 use Rattle.lines.specs.Line.{said}
