@@ -1,53 +1,51 @@
-// A step as twelve numbers, and back: kinds has them as definitions, which these contracts cite.
+// A step as twelve numbers: kinds has them as a definition, which these contracts cite.
 ghost use mathlib.Core.Path.{_≡_};
-ghost use mathlib.Core.Bool.{true};
-ghost use lib.ListN.{getD};
-ghost use Rattle.kinds.specs.Kinds.{kindOf, places, fit};
+ghost use mathlib.Core.List.{[], _∷_};
+ghost use Prim.Native.Nat.{_≤_, _<_};
+ghost use lib.ListN.{length, getD, take};
+ghost use Rattle.base.specs.Folds.{one, sumBelow};
+ghost use Rattle.base.specs.Placing.{place};
+ghost use Rattle.kinds.specs.Kinds.{places};
 use kinds::Step;
 
-// The step that the numbers tell.
-pub fn step_of(places: [u32; 12]) -> Step
-    requires { ⌜ fit (kindOf (getD places 0 0) .fields) places ≡ true ⌝ }
-    ensures { λ r. ⌜ r ≡ kindOf (getD places 0 0) .step places ⌝ }
+// The numbers of a kind whose fields are among 01 to 04.
+fn numbers(kind: u32, component: u8, block: u8, word: u8, value: u32) -> [u32; 12]
+    ensures { λ r. ⌜ r ≡ kind ∷ component ∷ block ∷ word ∷ value ∷ 0 ∷ 0 ∷ 0 ∷ 0 ∷ 0 ∷ 0 ∷ 0 ∷ [] ⌝ }
 {
-    let kind = places[0];
-    match kind {
-        0x10 => Step::Load {
-            component: places[1] as u8,
-            block: places[2] as u8,
-            word: places[3] as u8,
-        },
-        0x11 => Step::Store {
-            component: places[1] as u8,
-            block: places[2] as u8,
-            word: places[3] as u8,
-            value: places[4],
-        },
-        0x12 => Step::Send {
-            component: places[1] as u8,
-            block: places[2] as u8,
-            target: places[5] as u8,
-            plain: places[6] as u8,
-            owner: places[7] == 1,
-            data: places[8] == 1,
-        },
-        0x13 => Step::Deliver {
-            position: places[9] as u8,
-        },
-        0x14 => Step::Raise {
-            component: places[1] as u8,
-            block: places[2] as u8,
-        },
-        0x15 => Step::Lower {
-            component: places[1] as u8,
-            block: places[2] as u8,
-        },
-        0x16 => Step::Forward {
-            component: places[1] as u8,
-            block: places[2] as u8,
-        },
-        _ => Step::Deliver { position: 0 },
-    }
+    [
+        kind,
+        component as u32,
+        block as u32,
+        word as u32,
+        value,
+        0,
+        0,
+        0,
+        0,
+        0,
+        0,
+        0,
+    ]
+}
+
+// The numbers of a send.
+fn sent(component: u8, block: u8, target: u8, plain: u8, owner: bool, data: bool) -> [u32; 12]
+    ensures { λ r. ⌜ r ≡ 0x12 ∷ component ∷ block ∷ 0 ∷ 0 ∷ target ∷ plain ∷ one owner ∷ one «data» ∷ 0 ∷ 0 ∷ 0 ∷ [] ⌝ }
+{
+    [
+        0x12,
+        component as u32,
+        block as u32,
+        0,
+        0,
+        target as u32,
+        plain as u32,
+        owner as u32,
+        data as u32,
+        0,
+        0,
+        0,
+    ]
 }
 
 // The numbers that tell the step.
@@ -59,39 +57,13 @@ pub fn places_of(step: Step) -> [u32; 12]
             component,
             block,
             word,
-        } => [
-            0x10,
-            component as u32,
-            block as u32,
-            word as u32,
-            0,
-            0,
-            0,
-            0,
-            0,
-            0,
-            0,
-            0,
-        ],
+        } => numbers(0x10, component, block, word, 0),
         Step::Store {
             component,
             block,
             word,
             value,
-        } => [
-            0x11,
-            component as u32,
-            block as u32,
-            word as u32,
-            value,
-            0,
-            0,
-            0,
-            0,
-            0,
-            0,
-            0,
-        ],
+        } => numbers(0x11, component, block, word, value),
         Step::Send {
             component,
             block,
@@ -99,62 +71,47 @@ pub fn places_of(step: Step) -> [u32; 12]
             plain,
             owner,
             data,
-        } => [
-            0x12,
-            component as u32,
-            block as u32,
-            0,
-            0,
-            target as u32,
-            plain as u32,
-            owner as u32,
-            data as u32,
-            0,
-            0,
-            0,
-        ],
+        } => sent(component, block, target, plain, owner, data),
         Step::Deliver { position } => [0x13, 0, 0, 0, 0, 0, 0, 0, 0, position as u32, 0, 0],
-        Step::Raise { component, block } => [
-            0x14,
-            component as u32,
-            block as u32,
-            0,
-            0,
-            0,
-            0,
-            0,
-            0,
-            0,
-            0,
-            0,
-        ],
-        Step::Lower { component, block } => [
-            0x15,
-            component as u32,
-            block as u32,
-            0,
-            0,
-            0,
-            0,
-            0,
-            0,
-            0,
-            0,
-            0,
-        ],
-        Step::Forward { component, block } => [
-            0x16,
-            component as u32,
-            block as u32,
-            0,
-            0,
-            0,
-            0,
-            0,
-            0,
-            0,
-            0,
-            0,
-        ],
+        Step::Raise { component, block } => numbers(0x14, component, block, 0, 0),
+        Step::Lower { component, block } => numbers(0x15, component, block, 0, 0),
+        Step::Forward { component, block } => numbers(0x16, component, block, 0, 0),
+    }
+}
+
+// The number at a place, 0 past the last.
+pub fn number_of(numbers: &[u32], place: u8) -> u64
+    ensures { λ r. ⌜ (r ≡ getD (now (numbers .entry)) place 0) × (r < 0x1_0000_0000) ⌝ }
+{
+    let at = place as usize;
+    if at < numbers.len() {
+        numbers[at] as u64
+    } else {
+        0
+    }
+}
+
+// The sum of twelve numbers.
+pub fn total(numbers: &[u32]) -> u64
+    ensures { λ r. ⌜ r ≡ sumBelow 12 (λ i. getD (now (numbers .entry)) i 0) ⌝ }
+{
+    let mut sum = 0;
+    let mut i = 0;
+    while i < 12 {
+        sum += number_of(numbers, i);
+        i += 1;
+    }
+    sum
+}
+
+// Copies the first twelve numbers to the front of `out`.
+pub fn copy_twelve(numbers: &[u32], out: &mut [u32])
+    requires { ⌜ (12 ≤ length (now numbers)) × (12 ≤ length (now out)) ⌝ }
+    ensures { λ _. ⌜ now (out .exit) ≡ place 0 (take 12 (now (numbers .entry))) (now (out .entry)) ⌝ }
+{
+    let mut i = 0;
+    while i < 12 {
+        out[i] = numbers[i];
+        i += 1;
     }
 }

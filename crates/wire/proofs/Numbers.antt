@@ -1,24 +1,27 @@
 -- The theorems on steps told by numbers, as C hands them over: the numbers of a step tell it, and nothing else does.
-use mathlib.Core.Path.{_≡_, refl, sym, _∙_}
-use Prim.Native.Nat.{ℕ}
+use mathlib.Core.Path.{_≡_, refl, sym, ap, _∙_}
+use Prim.Native.Nat.{ℕ, _<_}
 use native.Mathlib.Omega.{arith}
 use mathlib.Core.Bool.{Bool, true, false, _&&_, cond}
-use mathlib.Core.List.{List}
+use mathlib.Core.List.{List, [], _∷_}
 use lib.ListN.{length, getD, take}
-use lib.Seq.{take-all, length-take-le, ext-getD}
+use lib.Seq.{take-all, length-take-le, ext-getD, getD-take}
 use lib.Dec.{eqb, leb}
 use borrow.Author.Tests.{le-leb, leb-true, eq-eqb, eqb-true}
+use Rattle.base.specs.Folds.{All}
 use Rattle.base.proofs.Tests.{and-l, and-r, one-eqb}
 use Rattle.base.proofs.Folds.{below-at, below-of}
 use Rattle.refusals.specs.declared.Refusal.the-variants.{Torn}
+use Rattle.kinds.specs.declared.Field.{Field}
 use Rattle.kinds.specs.declared.Step.{Step}
 use Rattle.kinds.specs.declared.Step.the-variants.{Load, Store, Send, Deliver, Raise, Lower, Forward}
 use Rattle.kinds.specs.declared.Reading.the-variants.{Step as Read, Refused}
 use Rattle.kinds.specs.Kinds.{kindOf, places, kindIn, fit, fits}
-use Rattle.kinds.specs.Record.{stepBytes}
+use Rattle.kinds.specs.Record.{bodyBytes, recordBytes, stepBytes}
 use Rattle.reader.specs.Reader.{readRecord}
 use Rattle.told.specs.Told.{same, toldBy, told}
-use Rattle.kinds.proofs.Table.{places-length}
+use Rattle.kinds.proofs.Table.{kind-small, places-length}
+use Rattle.told.proofs.Telling.{tags-small, get-first}
 use Rattle.reader.proofs.Theorems.{refused-read, read-written, read-fits}
 
 step-places : (s : Step) → kindOf (kindIn (places s)) .step (places s) ≡ s
@@ -80,3 +83,20 @@ told-written ns s e = read-written s (told-is ns s e .1)
 -- The numbers of a step that was read tell that step.
 pub read-told : (bs : List ℕ) (s : Step) → readRecord bs ≡ Read s → told (places s) ≡ Read s
 read-told bs s e = told-places s (read-fits bs s e)
+
+-- ---- the bytes of the step that numbers tell, made of the numbers
+
+body-first : (ns : List ℕ) (fs : List Field) → All (λ f. f .tag < 12) fs → bodyBytes fs ns ≡ bodyBytes fs (take 12 ns)
+body-first ns [] h = refl
+body-first ns (f ∷ fs) h = rw (body-first ns fs (h .1), get-first ns f (h .0))
+
+module _ (ns : List ℕ) (s : Step) (e : told ns ≡ Read s) where
+  first-kind : kindIn ns ≡ kindIn (places s)
+  first-kind = sym (getD-take 12 ns 0 0 (omega arith)) ∙ ap kindIn (told-is ns s e .0)
+
+  pub told-kind : kindIn ns < 256
+  told-kind = rw first-kind (kind-small s)
+
+  pub told-bytes : recordBytes (kindIn ns) (bodyBytes (kindOf (kindIn ns) .fields) ns) ≡ stepBytes s
+  unfolding stepBytes
+  told-bytes = rw (body-first ns (kindOf (kindIn ns) .fields) (tags-small (kindIn ns)), told-is ns s e .0, first-kind)

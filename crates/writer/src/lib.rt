@@ -4,7 +4,7 @@ ghost use Prim.Native.Nat.{_≤_};
 ghost use mathlib.Core.List.{map};
 ghost use lib.ListN.{length};
 ghost use Rattle.base.specs.Placing.{place};
-ghost use Rattle.kinds.specs.Kinds.{fieldOf};
+ghost use Rattle.kinds.specs.Kinds.{fieldOf, kindOf};
 ghost use Rattle.kinds.specs.Record.{size, sizes, fieldBytes, bodyBytes, recordBytes, stepBytes};
 ghost use Rattle.writer.specs.Writer.{written, placed};
 use kinds::Field;
@@ -18,7 +18,7 @@ pub enum Written {
 }
 
 // Places a field with its value at the front of `out`, and gives its size.
-fn put_field(out: &mut [u8], field: Field, value: u32) -> usize
+fn put_field(out: &mut [u8], field: Field, value: u64) -> usize
     requires { ⌜ size field ≤ length (now out) ⌝ }
     ensures { λ r. ⌜ (r ≡ size field) × (now (out .exit) ≡ place 0 (fieldBytes field value) (now (out .entry))) ⌝ }
 {
@@ -26,21 +26,21 @@ fn put_field(out: &mut [u8], field: Field, value: u32) -> usize
     let end = 3 + width;
     out[0] = field.tag;
     numbers::put_number(&mut out[1..3], width as u64);
-    numbers::put_number(&mut out[3..end], value as u64);
+    numbers::put_number(&mut out[3..end], value);
     end
 }
 
 // Places fields with these tags, one after the other, at the front of `out`.
-fn put_fields(out: &mut [u8], tags: &[u8], places: &[u32; 12])
+fn put_fields(out: &mut [u8], tags: &[u8], numbers: &[u32])
     requires { ⌜ sizes (map fieldOf (now tags)) ≤ length (now out) ⌝ }
-    ensures { λ _. ⌜ now (out .exit) ≡ place 0 (bodyBytes (map fieldOf (now (tags .entry))) (now (places .entry))) (now (out .entry)) ⌝ }
+    ensures { λ _. ⌜ now (out .exit) ≡ place 0 (bodyBytes (map fieldOf (now (tags .entry))) (now (numbers .entry))) (now (out .entry)) ⌝ }
 {
     let mut at = 0;
     let mut i = 0;
     while i < tags.len() {
         let field = table::field_of(tags[i]);
-        let tag = field.tag as usize;
-        at += put_field(&mut out[at..], field, places[tag]);
+        let value = places::number_of(numbers, field.tag);
+        at += put_field(&mut out[at..], field, value);
         i += 1;
     }
 }
@@ -61,10 +61,10 @@ fn fields_size(tags: &[u8]) -> usize
 }
 
 // Places a record at the front of `out`, where there is room.
-fn put_record(out: &mut [u8], kind: u8, tags: &[u8], places: &[u32; 12]) -> Written
+fn put_record(out: &mut [u8], kind: u8, tags: &[u8], numbers: &[u32]) -> Written
     requires { ⌜ length (now tags) ≤ 6 ⌝ }
-    ensures answer { λ r. ⌜ r ≡ written (recordBytes kind (bodyBytes (map fieldOf (now (tags .entry))) (now (places .entry)))) 0 (now (out .entry)) ⌝ }
-    ensures buffer { λ r. ⌜ now (out .exit) ≡ placed (recordBytes kind (bodyBytes (map fieldOf (now (tags .entry))) (now (places .entry)))) 0 (now (out .entry)) ⌝ }
+    ensures answer { λ r. ⌜ r ≡ written (recordBytes kind (bodyBytes (map fieldOf (now (tags .entry))) (now (numbers .entry)))) 0 (now (out .entry)) ⌝ }
+    ensures buffer { λ r. ⌜ now (out .exit) ≡ placed (recordBytes kind (bodyBytes (map fieldOf (now (tags .entry))) (now (numbers .entry)))) 0 (now (out .entry)) ⌝ }
 {
     let body = fields_size(tags);
     let total = 3 + body;
@@ -73,21 +73,19 @@ fn put_record(out: &mut [u8], kind: u8, tags: &[u8], places: &[u32; 12]) -> Writ
     }
     out[0] = kind;
     numbers::put_number(&mut out[1..3], body as u64);
-    put_fields(&mut out[3..], tags, places);
+    put_fields(&mut out[3..], tags, numbers);
     Written::Count(total)
 }
 
-// Places the record of a step at the front of `out`, where there is room.
-fn put_step(step: Step, out: &mut [u8]) -> Written
-    ensures answer { λ r. ⌜ r ≡ written (stepBytes step) 0 (now (out .entry)) ⌝ }
-    ensures buffer { λ r. ⌜ now (out .exit) ≡ placed (stepBytes step) 0 (now (out .entry)) ⌝ }
+// Places the record of the kind with this kind byte at the front of `out`, where there is room. Its fields have their values at the places of their tags.
+pub fn put_numbers(kind: u8, numbers: &[u32], out: &mut [u8]) -> Written
+    ensures answer { λ r. ⌜ r ≡ written (recordBytes kind (bodyBytes (kindOf kind .fields) (now (numbers .entry)))) 0 (now (out .entry)) ⌝ }
+    ensures buffer { λ r. ⌜ now (out .exit) ≡ placed (recordBytes kind (bodyBytes (kindOf kind .fields) (now (numbers .entry)))) 0 (now (out .entry)) ⌝ }
 {
-    let places = places::places_of(step);
-    let kind = places[0];
-    let fields = table::tags_of(kind);
+    let fields = table::tags_of(kind as u32);
     let count = fields.count;
     let tags = fields.tags;
-    put_record(out, kind as u8, &tags[..count], &places)
+    put_record(out, kind, &tags[..count], numbers)
 }
 
 // Places the record of a step into `out` from the offset `at` on. Where `out` ends too early, nothing changes.
@@ -98,5 +96,6 @@ pub fn write(step: Step, out: &mut [u8], at: usize) -> Written
     if out.len() < at {
         return Written::Refused(Refusal::ShortBuffer);
     }
-    put_step(step, &mut out[at..])
+    let numbers = places::places_of(step);
+    put_numbers(numbers[0] as u8, &numbers, &mut out[at..])
 }

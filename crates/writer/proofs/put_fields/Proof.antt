@@ -14,7 +14,6 @@ use Rattle.base.specs.Placing.{place}
 use Rattle.base.proofs.Lists.{map-next, rest-all}
 use Rattle.kinds.proofs.Sizes.{length-field}
 use Rattle.base.proofs.Placing.{length-place, place-none, place-more, place-rest}
-use Rattle.kinds.proofs.Table.{tag-small}
 use Rattle.writer.proofs.put_fields.Statement.{statement}
 use Rattle.writer.proofs.put_fields.Tie as tie
 
@@ -30,15 +29,15 @@ module _ (tags p out₀ out : List ℕ) (at i : ℕ) (h : Placed tags p out₀ o
   space : (f : Field) → f ≡ fieldOf (getD tags i 0) → at + size f + sizes (map fieldOf (drop (i + 1) tags)) ≤ length out
   space f is = rw is (omega (arith, h .room, ap sizes (map-next fieldOf tags i more)))
 
-  turn : (f : Field) (n : ℕ) (part : List ℕ) → f ≡ fieldOf (getD tags i 0) → n ≡ size f
-      → part ≡ place 0 (fieldBytes f (get f p)) (take (length out - at) (drop at out))
+  turn : (f : Field) (n v : ℕ) (part : List ℕ) → f ≡ fieldOf (getD tags i 0) → v ≡ get f p → n ≡ size f
+      → part ≡ place 0 (fieldBytes f v) (take (length out - at) (drop at out))
       → Placed tags p out₀ (putMid at (length out - at) out part) (at + n) (i + 1)
-  turn f n part is sized said =
+  turn f n v part is read sized said =
       let bytes : List ℕ = fieldBytes f (get f p) in
       let rest : List ℕ = bodyBytes (map fieldOf (drop (i + 1) tags)) p in
       let count : length bytes ≡ size f = length-field f (get f p) in
       let fits : at + size f + sizes (map fieldOf (drop (i + 1) tags)) ≤ length out = space f is in
-      let now-out : putMid at (length out - at) out part ≡ place at bytes out = rw said (place-rest at bytes out (omega arith)) in
+      let now-out : putMid at (length out - at) out part ≡ place at bytes out = rw (said, read) (place-rest at bytes out (omega arith)) in
       let now-long : length (place at bytes out) ≡ length out = length-place at bytes out (omega arith) in
       let parts : bytes ++ rest ≡ bodyBytes (map fieldOf (drop i tags)) p = rw (map-next fieldOf tags i more, is) in
       rw (now-out, sized)
@@ -50,10 +49,10 @@ module _ (tags p out₀ out : List ℕ) (at i : ℕ) (h : Placed tags p out₀ o
       }
 
 abbrev Inv-loop : tie.InvT-loop
-Inv-loop out₀ tags places at₀ i₀ out at i = Placed tags places out₀ out at i
+Inv-loop out₀ tags numbers at₀ i₀ out at i = Placed tags numbers out₀ out at i
 
 abbrev μ-loop : tie.MeasureT-loop
-μ-loop out₀ tags places at₀ i₀ out at i = length tags - i
+μ-loop out₀ tags numbers at₀ i₀ out at i = length tags - i
 
 loop-holds : tie.Need-loop-holds Inv-loop μ-loop
 loop-holds c = record { within = omega arith; long = refl; room = omega arith; whole = refl }
@@ -64,8 +63,8 @@ shared-slice-read-field-of c = omega arith
 field-of-requires : tie.Need-field-of-requires Inv-loop μ-loop
 field-of-requires c κs = search needs
 
-cast-tag : tie.Need-cast-tag Inv-loop μ-loop
-cast-tag c = search needs
+number-of-requires : tie.Need-number-of-requires Inv-loop μ-loop
+number-of-requires c κs = search needs
 
 sub-put-field : tie.Need-sub-put-field Inv-loop μ-loop
 sub-put-field c = omega arith
@@ -76,23 +75,17 @@ part-put-field-start c = omega arith
 part-put-field-end : tie.Need-part-put-field-end Inv-loop μ-loop
 part-put-field-end c = omega arith
 
--- the field's tag is a place
-small : (c : tie.After-field-of Inv-loop μ-loop) → c .field-of .result .tag < 12
-small c = rw (c .field-of .ensures) (tag-small _)
-
-mul-put-field : tie.Need-mul-put-field Inv-loop μ-loop
-mul-put-field c = omega (arith, small (c .before .before))
-
-element-copy-out-put-field : tie.Need-element-copy-out-put-field Inv-loop μ-loop
-element-copy-out-put-field c = small (c .before .before)
-
 put-field-requires : tie.Need-put-field-requires Inv-loop μ-loop
 put-field-requires c κs =
-    let loop = c .before .before .before .before .before .before .loop in
-    rw (rest-all (loop .out) (loop .at)) (omega (arith, length-drop (loop .at) (loop .out), space _ _ _ _ _ _ (c .before .before .before .before .before .before .loop .inv) (c .before .before .before .before .before .loop-test .taken) _ (c .before .before .before .field-of .ensures)))
+    let field = c .before .before in
+    let loop = field .before .before .before .loop in
+    rw (rest-all (loop .out) (loop .at)) (omega (arith, length-drop (loop .at) (loop .out), space _ _ _ _ _ _ (loop .inv) (field .before .before .loop-test .taken) _ (field .field-of .ensures)))
 
 add-at : tie.Need-add-at Inv-loop μ-loop
-add-at c = omega (arith, c .before .before .put-field .ensures .0, space _ _ _ _ _ _ (c .before .before .before .before .before .before .before .before .before .loop .inv) (c .before .before .before .before .before .before .before .before .loop-test .taken) _ (c .before .before .before .before .before .before .field-of .ensures))
+add-at c =
+    let called = c .before .before in
+    let field = called .before .before .before in
+    omega (arith, called .put-field .ensures .0, space _ _ _ _ _ _ (field .before .before .before .loop .inv) (field .before .before .loop-test .taken) _ (field .field-of .ensures))
 
 add-i : tie.Need-add-i Inv-loop μ-loop
 add-i c = omega arith
@@ -103,8 +96,9 @@ loop-less c = omega arith
 loop-again : tie.Need-loop-again Inv-loop μ-loop
 loop-again c =
     let called = c .before .before in
-    let field = called .before .before .before .before in
-    turn _ _ _ _ _ _ (field .before .before .before .loop .inv) (field .before .before .loop-test .taken) _ _ _ (field .field-of .ensures) (called .put-field .ensures .0) (called .put-field .ensures .1)
+    let read = called .before .before in
+    let field = read .before in
+    turn _ _ _ _ _ _ (field .before .before .before .loop .inv) (field .before .before .loop-test .taken) _ _ _ _ (field .field-of .ensures) (read .number-of .ensures .0) (called .put-field .ensures .0) (called .put-field .ensures .1)
 
 same-length : tie.Need-same-length Inv-loop μ-loop
 same-length c = c .before .loop .inv .long
@@ -112,7 +106,7 @@ same-length c = c .before .loop .inv .long
 returns : tie.Need-returns Inv-loop μ-loop
 returns c =
     let loop = c .before .loop in
-    let args = c .before .before .before .before .args in
+    let args = c .before .before .before .before .before .args in
     let none-left : drop (loop .i) (now (args .tags)) ≡ [] = drop-of-length-le (now (args .tags)) (c .loop-test .left) in
     sym (place-none (loop .at) (loop .out)) ∙ (rw none-left at (loop .inv .whole))
 
@@ -125,12 +119,10 @@ put-fields-spec =
     loop-holds
     shared-slice-read-field-of
     field-of-requires
-    cast-tag
+    number-of-requires
     sub-put-field
     part-put-field-start
     part-put-field-end
-    mul-put-field
-    element-copy-out-put-field
     put-field-requires
     add-at
     add-i

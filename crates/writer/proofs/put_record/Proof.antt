@@ -27,7 +27,7 @@ fields-size-requires c κs = search needs
 
 add-total : tie.Need-add-total
 add-total c =
-    let start = c .before .before .before in
+    let start = c .before .before .before .before in
     omega (arith, c .fields-size .ensures, sizes-bound (now (start .args .tags)), start .pre)
 
 -- the record's length, and the buffer after its head and its fields
@@ -64,9 +64,9 @@ module _ (kind : ℕ) (out tags p : List ℕ) (n : ℕ) (sized : n ≡ sizes (ma
 
 returns : tie.Need-returns
 returns c =
-    let start = c .before .before .before .before in
+    let start = c .before .before .before .before .before in
     let args = start .args in
-    no-room (args .kind) (now (args .out)) (now (args .tags)) (now (args .places)) _ (c .before .fields-size .ensures) (omega arith)
+    no-room (args .kind) (now (args .out)) (now (args .tags)) (now (args .numbers)) _ (c .before .fields-size .ensures) (omega arith)
 
 slice-write-out : tie.Need-slice-write-out
 slice-write-out c = search needs
@@ -85,12 +85,12 @@ put-number-requires c κs = search needs
 
 sub-put-fields : tie.Need-sub-put-fields
 sub-put-fields c =
-    let args = c .before .before .before .before .before .before .before .before .args in
+    let args = c .before .before .before .before .before .before .before .before .before .args in
     omega (arith, c .before .out .given .1, length-set (now (args .out)) 0 (args .kind))
 
 part-put-fields-start : tie.Need-part-put-fields-start
 part-put-fields-start c =
-    let args = c .before .before .before .before .before .before .before .before .args in
+    let args = c .before .before .before .before .before .before .before .before .before .args in
     omega (arith, c .before .out .given .1, length-set (now (args .out)) 0 (args .kind))
 
 part-put-fields-end : tie.Need-part-put-fields-end
@@ -98,26 +98,26 @@ part-put-fields-end c = search needs
 
 put-fields-requires : tie.Need-put-fields-requires
 put-fields-requires c κs =
-    let start = c .before .before .before .before .before .before .before .before .before in
+    let start = c .before .before .before .before .before .before .before .before .before .before in
     let args = start .args in
     let tested = c .before .before .before .before .before in
     let head = putMid 1 2 (set (now (args .out)) 0 (args .kind)) (c .before .before .before .put-number .last .0) in
-    fields-room (args .kind) (now (args .out)) (now (args .tags)) (now (args .places)) _ (tested .before .fields-size .ensures)
+    fields-room (args .kind) (now (args .out)) (now (args .tags)) (now (args .numbers)) _ (tested .before .fields-size .ensures)
     head (c .before .before .out .given .1 ∙ length-set (now (args .out)) 0 (args .kind)) (omega arith)
 
 same-length : tie.Need-same-length
 same-length c =
-    let args = c .before .before .before .before .before .before .before .before .before .before .before .before .args in
+    let args = c .before .before .before .before .before .before .before .before .before .before .before .before .before .args in
     c .before .out2 .given .1 ∙ c .before .before .before .before .before .out .given .1 ∙ length-set (now (args .out)) 0 (args .kind)
 
 returns-2 : tie.Need-returns-2
 returns-2 c =
     let tested = c .before .before .before .before .before .before .before .before in
-    let start = tested .before .before .before .before in
+    let start = tested .before .before .before .before .before in
     let args = start .args in
     let sized = tested .before .fields-size .ensures in
-    room (args .kind) (now (args .out)) (now (args .tags)) (now (args .places)) _ sized (omega arith)
-    (finished (args .kind) (now (args .out)) (now (args .tags)) (now (args .places)) _ sized _ _ (omega arith) (c .before .before .before .before .before .before .put-number .ensures) (c .before .before .put-fields .ensures))
+    room (args .kind) (now (args .out)) (now (args .tags)) (now (args .numbers)) _ sized (omega arith)
+    (finished (args .kind) (now (args .out)) (now (args .tags)) (now (args .numbers)) _ sized _ _ (omega arith) (c .before .before .before .before .before .before .put-number .ensures) (c .before .before .put-fields .ensures))
 
 pub put-record-spec : {M : Type 1} → statement M
 put-record-spec =

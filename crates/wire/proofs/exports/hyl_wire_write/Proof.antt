@@ -1,48 +1,89 @@
--- `wire::exports::hyl_wire_write` meets its contract: the step that the numbers tell is written, or the refusal handed on.
-use mathlib.Core.Path.{refl, sym, _∙_}
+-- `wire::exports::hyl_wire_write` meets its contract: the numbers that tell a step are those of its record, and others are refused.
+use mathlib.Core.Path.{_≡_, refl, sym, ap, _∙_}
+use Prim.Native.Nat.{ℕ, _<_}
+use native.Mathlib.Omega.{arith}
+use mathlib.Core.Bool.{Bool, true, false, not, cond}
+use mathlib.Core.List.{List}
+use denote.Ref.{now}
+use lib.ListN.{take}
+use borrow.Author.Tests.{not-true, not-false}
+use Rattle.refusals.specs.declared.Refusal.the-variants.{Torn}
+use Rattle.refusals.specs.Packing.{refused}
+use Rattle.kinds.specs.declared.Reading.the-variants.{Step as Read, Refused}
+use Rattle.kinds.specs.Kinds.{kindIn, kindOf}
+use Rattle.kinds.specs.Record.{bodyBytes, recordBytes}
+use Rattle.writer.specs.Writer.{written, placed}
+use Rattle.told.specs.Told.{told}
+use Rattle.wire.specs.Entries.{writtenAnswer, writeAnswer, writeAfter}
+use Rattle.wire.proofs.Numbers.{told-kind, told-bytes}
 use borrow.Author.Needs.{needs}
-use Rattle.wire.specs.Entries.{writeAnswer, writeAfter}
 use Rattle.wire.proofs.exports.hyl_wire_write.Statement.{statement}
 use Rattle.wire.proofs.exports.hyl_wire_write.Tie as tie
 
-step-requires : tie.Need-step-requires
-step-requires c κs = search needs
+-- the two answers
+module _ (ns : List ℕ) (r : Bool) (decided : cond r (Read (kindOf (kindIn ns) .step (take 12 ns))) (Refused Torn) ≡ told ns) (at : ℕ) (out : List ℕ) where
+  torn : not r ≡ true → {n : ℕ} → n ≡ refused Torn → (n ≡ writeAnswer (told ns) at out) × (out ≡ writeAfter (told ns) at out)
+  unfolding writeAnswer writeAfter
+  torn h p = rw (← (rw (not-true r h) at decided)) (p, refl)
 
-enum-known-step : tie.Need-enum-known-step
-enum-known-step c = search needs
+  module _ (h : not r ≡ false) where
+    tells : told ns ≡ Read (kindOf (kindIn ns) .step (take 12 ns))
+    tells = sym (rw (not-false r h) at decided)
 
-put-told-requires : tie.Need-put-told-requires
-put-told-requires c κs = search needs
+    small : {k : ℕ} → k ≡ kindIn ns → k < 256
+    small e = rw e (told-kind ns _ tells)
 
-enum-known-refusal : tie.Need-enum-known-refusal
-enum-known-refusal c = search needs
+    wrote : {k n : ℕ} {after : List ℕ} → k ≡ kindIn ns
+        → (n ≡ writtenAnswer (written (recordBytes k (bodyBytes (kindOf k .fields) ns)) at out))
+        × (after ≡ placed (recordBytes k (bodyBytes (kindOf k .fields) ns)) at out)
+        → (n ≡ writeAnswer (told ns) at out) × (after ≡ writeAfter (told ns) at out)
+    unfolding writeAnswer writeAfter
+    wrote e p = rw (tells, ← (told-bytes ns _ tells), ← e) p
+
+tells-requires : tie.Need-tells-requires
+tells-requires c κs = search needs
 
 pack-refused-requires : tie.Need-pack-refused-requires
 pack-refused-requires c κs = search needs
 
+returns : tie.Need-returns
+returns c =
+    let asked = c .before .before in
+    let args = asked .before .before .before .args in
+    torn (now (args .numbers)) (asked .tells .result) (asked .tells .ensures) (args .at) (now (args .out)) (c .before .if1 .taken) (c .pack-refused .ensures)
+
+number-of-requires : tie.Need-number-of-requires
+number-of-requires c κs = search needs
+
+cast-put-told : tie.Need-cast-put-told
+cast-put-told c =
+    let asked = c .before .before in
+    let args = asked .before .before .before .args in
+    omega (arith, small (now (args .numbers)) (asked .tells .result) (asked .tells .ensures) (args .at) (now (args .out)) (c .before .if1 .left) (c .number-of .ensures .0))
+
+put-told-requires : tie.Need-put-told-requires
+put-told-requires c κs = search needs
+
 same-length : tie.Need-same-length
 same-length c = search needs
 
-returns : tie.Need-returns
-returns c =
-    let told = c .before .before .before .before .before in
-    rw (sym (told .before .before .step .ensures) ∙ told .step2 .given .1) (c .before .before .put-told .ensures)
-
 returns-2 : tie.Need-returns-2
-unfolding writeAnswer writeAfter
 returns-2 c =
-    let refusal = c .before .before in
-    rw (sym (refusal .before .before .step .ensures) ∙ refusal .refusal .given .1) (c .pack-refused .ensures, refl)
+    let called = c .before .before in
+    let kind = called .before .before in
+    let asked = kind .before .before in
+    let args = asked .before .before .before .args in
+    wrote (now (args .numbers)) (asked .tells .result) (asked .tells .ensures) (args .at) (now (args .out)) (kind .before .if1 .left) (kind .number-of .ensures .0) (called .put-told .ensures)
 
 pub hyl-wire-write-spec : {M : Type 1} → statement M
 hyl-wire-write-spec =
     tie.close
     (tie.spec
-    step-requires
-    enum-known-step
-    put-told-requires
-    enum-known-refusal
+    tells-requires
     pack-refused-requires
-    same-length
     returns
+    number-of-requires
+    cast-put-told
+    put-told-requires
+    same-length
     returns-2)

@@ -1,4 +1,4 @@
--- `told::copy_twelve` meets its contract: the numbers passed stand at the front.
+-- `places::copy_twelve` meets its contract: the numbers passed stand at the front.
 use mathlib.Core.Path.{_≡_, refl, sym, _∙_}
 use Prim.Native.Nat.{ℕ, suc, _+_, _-_, _≤_, _<_}
 use native.Mathlib.Omega.{arith}
@@ -8,8 +8,8 @@ use mathlib.Core.List.{List, _++_}
 use lib.ListN.{length, getD, take, drop, set, length-set}
 use lib.Seq.{drop-cons, take-suc, set-at, append-snoc, length-take-le}
 use Rattle.base.specs.Placing.{place}
-use Rattle.told.proofs.copy_twelve.Statement.{statement}
-use Rattle.told.proofs.copy_twelve.Tie as tie
+use Rattle.places.proofs.copy_twelve.Statement.{statement}
+use Rattle.places.proofs.copy_twelve.Tie as tie
 
 -- a turn of the loop
 turn : (from out₀ : List ℕ) (i : ℕ) → i < length from → i < length out₀ → set (take i from ++ drop i out₀) i (getD from i 0) ≡ take (i + 1) from ++ drop (i + 1) out₀
