@@ -2,14 +2,14 @@
 use Prim.Native.Nat.{ℕ, _+_, _*_, _/_, _%_, _^_, _≤_, _<_}
 use native.Mathlib.Omega.{arith}
 use mathlib.Core.Path.{_≡_, refl, sym, ap, _∙_, subst}
-use mathlib.Core.Bool.{Bool, true, false, _&&_}
+use mathlib.Core.Bool.{Bool, true, false, cond, _&&_, and-assoc}
 use mathlib.Core.List.{List, [], _∷_}
 use lib.Dec.{eqb, ltb}
 use lib.ListN.{length, getD, set, take, drop, length-drop}
 use lib.Seq.{drop-drop, length-take-le}
 use borrow.Author.Tests.{eq-eqb, eqb-true, ltb-true, lt-ltb}
 use mathlib.Core.Logic.{⊎-elim}
-use Rattle.base.proofs.Tests.{either, lt-or-le, same-test, and-l, and-r, and-of}
+use Rattle.base.proofs.Tests.{either, lt-or-le, same-test, and-l, and-r, and-of, and-true}
 use Rattle.layout.specs.Number.{Bytes, number}
 use Rattle.layout.proofs.Numbers.{four, number-four, number-below}
 use Rattle.layout.proofs.Parts.{bytes-take, bytes-drop}
@@ -26,14 +26,11 @@ use Rattle.bodies.proofs.Bodies.{torn-body, step-body}
 -- ---- one field
 
 -- four bytes less a tag and the length 1, as one number
-pub seen-byte : (t l a b c d r : ℕ) (rest : List ℕ) → t < 256 → l ≤ 256 → a < 256 → b < 256 → c < 256 → d < 256 → r < 2 ^ 32
+seen-byte : (t l a b c d r : ℕ) (rest : List ℕ) → t < 256 → l ≤ 256 → a < 256 → b < 256 → c < 256 → d < 256 → r < 2 ^ 32
     → (r + (t * 16777216 + 256)) % 2 ^ 32 ≡ a * 16777216 + b * 65536 + c * 256 + d
-    → Seen (byteField t l) (a ∷ b ∷ c ∷ d ∷ rest) (ltb r l) r
+    → (ltb r l ≡ stands (byteField t l) (a ∷ b ∷ c ∷ d ∷ rest)) × (ltb r l ≡ true → valueAt (byteField t l) (a ∷ b ∷ c ∷ d ∷ rest) ≡ r % 256)
 seen-byte t l a b c d r rest ht hl ha hb hc hd hr e =
-    record {
-      stood = same-test (stands f bs) (ltb r l) there back;
-      value = λ h. omega (arith, digits-of (ltb-true r l h));
-    }
+    (same-test (ltb r l) (stands f bs) back there, λ h. omega (arith, digits-of (ltb-true r l h), ltb-true r l h))
   where
     f : Field
     f = byteField t l
@@ -64,14 +61,16 @@ seen-byte t l a b c d r rest ht hl ha hb hc hd hr e =
 
 module _ (s : List ℕ) (bytes : Bytes s) (at : ℕ) where
   -- r is the number of the four bytes at a place, less the tag and the length
-  pub seen-at : (t r x : ℕ) → at + 4 ≤ length s → t < 256 → r < 2 ^ 32 → x ≡ number (take 4 (drop at s)) → (r + (t * 16777216 + 256)) % 2 ^ 32 ≡ x
-      → (l : ℕ) → l ≤ 256 → Seen (byteField t l) (drop at s) (ltb r l) r
-  seen-at t r x room ht hr ex e l hl =
-      subst (λ (bs : List ℕ). Seen (byteField t l) bs (ltb r l) r) (sym (four at s room))
-      (seen-byte t l _ _ _ _ r _ ht hl (bytes at) (bytes (at + 1)) (bytes (at + 2)) (bytes (at + 3)) hr (e ∙ ex ∙ number-four at s room))
+  pub seen-at : (t l r x : ℕ) → at + 4 ≤ length s → t < 256 → l ≤ 256 → r < 2 ^ 32 → x ≡ number (take 4 (drop at s)) → (r + (t * 16777216 + 256)) % 2 ^ 32 ≡ x
+      → (so u : Bool) → u ≡ (so && ltb r l) → Seen so (byteField t l) (drop at s) u (r % 256)
+  seen-at t l r x room ht hl hr ex e so u eu =
+      let is =
+      subst (λ (bs : List ℕ). (ltb r l ≡ stands (byteField t l) bs) × (ltb r l ≡ true → valueAt (byteField t l) bs ≡ r % 256)) (sym (four at s room))
+      (seen-byte t l _ _ _ _ r _ ht hl (bytes at) (bytes (at + 1)) (bytes (at + 2)) (bytes (at + 3)) hr (e ∙ ex ∙ number-four at s room)) in
+      record { stood = eu ∙ ap (λ (b : Bool). so && b) (is .0); value = λ h. is .1 (and-r so (ltb r l) (sym eu ∙ h)) }
 
   -- x is the number of the four bytes at the place of a value
-  pub stands-value : (x : ℕ) → at + 7 ≤ length s → x ≡ number (take 4 (drop at s)) → eqb (x / 256) 0x040004 ≡ stands value (drop at s)
+  stands-value : (x : ℕ) → at + 7 ≤ length s → x ≡ number (take 4 (drop at s)) → eqb (x / 256) 0x040004 ≡ stands value (drop at s)
   stands-value x room ex =
       let is : x ≡ getD s at 0 * 16777216 + getD s (at + 1) 0 * 65536 + getD s (at + 2) 0 * 256 + getD s (at + 3) 0 = ex ∙ number-four at s (omega arith) in
       let bs : List ℕ = drop at s in
@@ -92,21 +91,26 @@ module _ (s : List ℕ) (bytes : Bytes s) (at : ℕ) where
       (λ h. let k = true-headed value bs (and-l (headed value bs) (ltb (valueAt value bs) 0x1_0000_0000) h) in
       eq-eqb (x / 256) 0x040004 (omega (arith, is, sym first ∙ k .tag, sym wide ∙ k .width, bytes (at + 3))))
 
--- a number below 256 is its low byte
-pub low-is : (x r : ℕ) → x ≡ r % 256 → ltb r 256 ≡ true → x ≡ r
-low-is x r e h = omega (arith, e, ltb-true r 256 h)
+  pub seen-value : (x v : ℕ) → at + 7 ≤ length s → x ≡ number (take 4 (drop at s)) → v ≡ number (take 4 (drop (at + 3) s))
+      → (so u : Bool) → u ≡ (so && eqb (x / 256) 0x040004) → Seen so value (drop at s) u v
+  seen-value x v room ex ev so u eu =
+      record {
+        stood = eu ∙ ap (λ (b : Bool). so && b) (stands-value x room ex);
+        value = λ h. ap (λ (l : List ℕ). number (take 4 l)) (drop-drop 3 at s) ∙ sym ev;
+      }
 
 -- ---- fields at their places
 
 -- what was seen of fields, one after the other from a place on up to the end
-abbrev pub Reads : List Field → ℕ → List ℕ → List (Bool × ℕ) → Type 0
-Reads [] at s xs = at ≡ length s
-Reads (f ∷ fs) at s [] = ⊥
-Reads (f ∷ fs) at s (x ∷ xs) = Seen f (drop at s) (x .0) (x .1) × Reads fs (at + size f) s xs
+abbrev pub Reads : List Field → ℕ → List ℕ → Bool → List (Bool × ℕ) → Type 0
+Reads [] at s so xs = at ≡ length s
+Reads (f ∷ fs) at s so [] = ⊥
+Reads (f ∷ fs) at s so (x ∷ xs) = Seen so f (drop at s) (x .0) (x .1) × Reads fs (at + size f) s (x .0) xs
 
-abbrev pub tests : List (Bool × ℕ) → Bool
-tests [] = true
-tests (x ∷ xs) = x .0 && tests xs
+-- whether all stand
+abbrev pub all : Bool → List (Bool × ℕ) → Bool
+all so [] = so
+all so (x ∷ xs) = all (x .0) xs
 
 -- the numbers with the fields' values
 abbrev pub puts : List Field → List (Bool × ℕ) → List ℕ → List ℕ
@@ -114,20 +118,23 @@ puts [] xs p = p
 puts (f ∷ fs) [] p = p
 puts (f ∷ fs) (x ∷ xs) p = puts fs xs (set p (f .tag) (x .1))
 
-pub fill-reads : (fs : List Field) (at : ℕ) (s : List ℕ) (xs : List (Bool × ℕ)) → (length xs ≡ length fs) → Reads fs at s xs → fill fs (drop at s) ≡ tests xs
-fill-reads [] at s [] l h = eq-eqb _ _ (length-drop at s ∙ omega (arith, h))
-fill-reads [] at s (x ∷ xs) l h = absurd (omega arith)
-fill-reads (f ∷ fs) at s [] l h = absurd h
-fill-reads (f ∷ fs) at s (x ∷ xs) l h =
-    (λ i. h .0 .stood i && (ap (fill fs) (drop-drop (size f) at s) ∙ fill-reads fs (at + size f) s xs (omega arith) (h .1)) i)
+fill-reads : (fs : List Field) (at : ℕ) (s : List ℕ) (so : Bool) (xs : List (Bool × ℕ)) → length xs ≡ length fs → Reads fs at s so xs
+    → all so xs ≡ (so && fill fs (drop at s))
+fill-reads [] at s so [] l h = sym (ap (λ (b : Bool). so && b) (eq-eqb (length (drop at s)) 0 (length-drop at s ∙ omega (arith, h))) ∙ and-true so)
+fill-reads [] at s so (x ∷ xs) l h = absurd (omega arith)
+fill-reads (f ∷ fs) at s so [] l h = absurd h
+fill-reads (f ∷ fs) at s so (x ∷ xs) l h =
+    fill-reads fs (at + size f) s (x .0) xs (omega arith) (h .1) ∙ (λ i. h .0 .stood i && fill fs (sym (drop-drop (size f) at s) i))
+    ∙ and-assoc so (stands f (drop at s)) (fill fs (drop (size f) (drop at s)))
 
-pub gathered-reads : (fs : List Field) (at : ℕ) (s : List ℕ) (xs : List (Bool × ℕ)) (p : List ℕ) → Reads fs at s xs → tests xs ≡ true
-    → gathered fs (drop at s) p ≡ puts fs xs p
-gathered-reads [] at s xs p h t = refl
-gathered-reads (f ∷ fs) at s [] p h t = absurd h
-gathered-reads (f ∷ fs) at s (x ∷ xs) p h t =
-    (λ i. gathered fs (drop-drop (size f) at s i) (set p (f .tag) (h .0 .value (and-l (x .0) (tests xs) t) i)))
-    ∙ gathered-reads fs (at + size f) s xs (set p (f .tag) (x .1)) (h .1) (and-r (x .0) (tests xs) t)
+gathered-reads : (fs : List Field) (at : ℕ) (s : List ℕ) (so : Bool) (xs : List (Bool × ℕ)) (p : List ℕ) → length xs ≡ length fs → Reads fs at s so xs
+    → all so xs ≡ true → gathered fs (drop at s) p ≡ puts fs xs p
+gathered-reads [] at s so xs p l h t = refl
+gathered-reads (f ∷ fs) at s so [] p l h t = absurd h
+gathered-reads (f ∷ fs) at s so (x ∷ xs) p l h t =
+    let stood : x .0 ≡ true = and-l (x .0) _ (sym (fill-reads fs (at + size f) s (x .0) xs (omega arith) (h .1)) ∙ t) in
+    (λ i. gathered fs (drop-drop (size f) at s i) (set p (f .tag) (h .0 .value stood i)))
+    ∙ gathered-reads fs (at + size f) s (x .0) xs (set p (f .tag) (x .1)) (omega arith) (h .1) t
 
 -- ---- a body
 
@@ -142,11 +149,17 @@ module _ (k : ℕ) (s : List ℕ) where
   pub other-length : (length s ≡ sizes (kindOf k .fields) → ⊥) → Refused Torn ≡ readBody k s
   other-length n = torn-body k s (⊎-elim (λ h. absurd (n (length-filled (kindOf k .fields) s h))) (λ h. h) (either (fill (kindOf k .fields) s)))
 
-  module _ (xs : List (Bool × ℕ)) (l : length xs ≡ length (kindOf k .fields)) (h : Reads (kindOf k .fields) 0 s xs) where
-    pub torn-reads : tests xs ≡ false → Refused Torn ≡ readBody k s
-    torn-reads t = torn-body k s (fill-reads (kindOf k .fields) 0 s xs l h ∙ t)
+  -- fields that were seen, and their numbers
+  pub kind-reads : (xs : List (Bool × ℕ)) → length xs ≡ length (kindOf k .fields) → Reads (kindOf k .fields) 0 s true xs
+      → cond (all true xs) (Read (kindOf k .step (puts (kindOf k .fields) xs (k ∷ 0 ∷ 0 ∷ 0 ∷ 0 ∷ 0 ∷ 0 ∷ 0 ∷ 0 ∷ 0 ∷ 0 ∷ 0 ∷ [])))) (Refused Torn) ≡ readBody k s
+  kind-reads xs l h = by (all true xs) refl
+    where
+      filled-if : all true xs ≡ fill (kindOf k .fields) s
+      filled-if = fill-reads (kindOf k .fields) 0 s true xs l h
 
-    pub step-reads : tests xs ≡ true → Read (kindOf k .step (puts (kindOf k .fields) xs (k ∷ 0 ∷ 0 ∷ 0 ∷ 0 ∷ 0 ∷ 0 ∷ 0 ∷ 0 ∷ 0 ∷ 0 ∷ 0 ∷ []))) ≡ readBody k s
-    step-reads t =
-        ap (λ (p : List ℕ). Read (kindOf k .step p)) (sym (gathered-reads (kindOf k .fields) 0 s xs _ h t))
-        ∙ step-body k s (fill-reads (kindOf k .fields) 0 s xs l h ∙ t)
+      by : (t : Bool) → all true xs ≡ t
+          → cond t (Read (kindOf k .step (puts (kindOf k .fields) xs (k ∷ 0 ∷ 0 ∷ 0 ∷ 0 ∷ 0 ∷ 0 ∷ 0 ∷ 0 ∷ 0 ∷ 0 ∷ 0 ∷ [])))) (Refused Torn) ≡ readBody k s
+      by true t =
+          ap (λ (p : List ℕ). Read (kindOf k .step p)) (sym (gathered-reads (kindOf k .fields) 0 s true xs _ l h t))
+          ∙ step-body k s (sym filled-if ∙ t)
+      by false t = torn-body k s (sym filled-if ∙ t)

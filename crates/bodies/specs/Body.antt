@@ -11,7 +11,6 @@ use Rattle.kinds.specs.declared.Reading.{Reading}
 use Rattle.kinds.specs.declared.Reading.the-variants.{Step, Refused}
 use Rattle.kinds.specs.Kinds.{kindOf}
 use Rattle.kinds.specs.Record.{size}
-use Rattle.bodies.specs.declared.Parsed.{Parsed}
 
 -- the field's tag and length stand at the front of the bytes, which are long enough for its value
 unfoldable pub headed : Field → List ℕ → Bool
@@ -43,7 +42,3 @@ placesIn kind fs body = gathered fs body (kind ∷ 0 ∷ 0 ∷ 0 ∷ 0 ∷ 0 ∷
 unfoldable pub readBody : ℕ → List ℕ → Reading
 readBody kind body =
     cond (fill (kindOf kind .fields) body) (Step (kindOf kind .step (placesIn kind (kindOf kind .fields) body))) (Refused Torn)
-
--- what a body reads as, by what the code has parsed of it
-abbrev pub readAs : Parsed → Reading
-readAs p = cond (p .stands) (Step (p .step)) (Refused Torn)

@@ -1,14 +1,13 @@
 // Step records: the body of each kind's record, read. specs/Body.antt says what each gives for every bytes.
 ghost use mathlib.Core.Path.{_≡_};
 ghost use mathlib.Core.List.{[], _∷_};
-ghost use Prim.Native.Nat.{ℕ, _+_, _%_, _≤_};
-ghost use lib.Dec.{ltb};
+ghost use Prim.Native.Nat.{_+_, _≤_};
 ghost use lib.ListN.{length, drop};
 ghost use Rattle.refusals.specs.declared.Refusal.the-variants.{Torn};
 ghost use Rattle.kinds.specs.declared.Reading.the-variants.{Refused};
 ghost use Rattle.kinds.specs.Kinds.{kindOf, value};
-ghost use Rattle.bodies.specs.Body.{stands, readAs, readBody};
-ghost use Rattle.bodies.specs.Seen.{byteField, Seen};
+ghost use Rattle.bodies.specs.Body.{readBody};
+ghost use Rattle.bodies.specs.Seen.{byteField, Seen, readAs};
 use base::both;
 use base::wide;
 use kinds::Step;
@@ -19,28 +18,41 @@ pub struct Parsed {
     pub step: Step,
 }
 
-// The number of the field of one byte with this tag, where it stands at a place; a number above 255 where anything else does.
+// A field of one byte: whether it and the fields before it stand, and its value where they do.
+struct Byte {
+    stands: bool,
+    value: u8,
+}
+
+// The same of a field of four bytes.
+struct Value {
+    stands: bool,
+    value: u32,
+}
+
+// The field of one byte with this tag and limit at a place, behind fields that stand or not.
 // Tag and length are taken off the four bytes as one number.
-fn field(bytes: &[u8], at: usize, tag: u8) -> u32
-    requires { ⌜ at + 4 ≤ length (now bytes) ⌝ }
-    ensures { λ r. ⌜ ((limit : ℕ) → limit ≤ 256 → Seen (byteField tag limit) (drop at (now (bytes .entry))) (ltb r limit) r) ⌝ }
+fn field(bytes: &[u8], at: usize, tag: u8, limit: u32, so: bool) -> Byte
+    requires { ⌜ (at + 4 ≤ length (now bytes)) × (limit ≤ 256) ⌝ }
+    ensures { λ r. ⌜ Seen so (byteField tag limit) (drop at (now (bytes .entry))) (r .stands) (r .value) ⌝ }
 {
     let found = numbers::number_at(bytes, at);
-    std::num::wrapping_sub_u32(found, wide(tag) * 16777216 + 256)
+    let left = std::num::wrapping_sub_u32(found, wide(tag) * 16777216 + 256);
+    Byte {
+        stands: both(so, left < limit),
+        value: (left % 256) as u8,
+    }
 }
 
-// Whether a value of four bytes stands at a place.
-fn value_stands(bytes: &[u8], at: usize) -> bool
+// The value of four bytes at a place, behind fields that stand or not.
+fn word(bytes: &[u8], at: usize, so: bool) -> Value
     requires { ⌜ at + 7 ≤ length (now bytes) ⌝ }
-    ensures { λ r. ⌜ r ≡ stands value (drop at (now (bytes .entry))) ⌝ }
+    ensures { λ r. ⌜ Seen so value (drop at (now (bytes .entry))) (r .stands) (r .value) ⌝ }
 {
-    numbers::number_at(bytes, at) / 256 == 0x040004
-}
-
-fn low(x: u32) -> u8
-    ensures { λ r. ⌜ r ≡ x % 256 ⌝ }
-{
-    (x % 256) as u8
+    Value {
+        stands: both(so, numbers::number_at(bytes, at) / 256 == 0x040004),
+        value: numbers::number_at(bytes, at + 3),
+    }
 }
 
 // No step.
@@ -60,15 +72,15 @@ pub fn read_load(body: &[u8]) -> Parsed
     if body.len() != 12 {
         return nothing();
     }
-    let c = field(body, 0, 0x01);
-    let b = field(body, 4, 0x02);
-    let w = field(body, 8, 0x03);
+    let c = field(body, 0, 0x01, 256, true);
+    let b = field(body, 4, 0x02, 256, c.stands);
+    let w = field(body, 8, 0x03, 256, b.stands);
     Parsed {
-        stands: both(c < 256, both(b < 256, w < 256)),
+        stands: w.stands,
         step: Step::Load {
-            component: low(c),
-            block: low(b),
-            word: low(w),
+            component: c.value,
+            block: b.value,
+            word: w.value,
         },
     }
 }
@@ -80,17 +92,17 @@ pub fn read_store(body: &[u8]) -> Parsed
     if body.len() != 19 {
         return nothing();
     }
-    let c = field(body, 0, 0x01);
-    let b = field(body, 4, 0x02);
-    let w = field(body, 8, 0x03);
-    let v = value_stands(body, 12);
+    let c = field(body, 0, 0x01, 256, true);
+    let b = field(body, 4, 0x02, 256, c.stands);
+    let w = field(body, 8, 0x03, 256, b.stands);
+    let v = word(body, 12, w.stands);
     Parsed {
-        stands: both(c < 256, both(b < 256, both(w < 256, v))),
+        stands: v.stands,
         step: Step::Store {
-            component: low(c),
-            block: low(b),
-            word: low(w),
-            value: numbers::number_at(body, 15),
+            component: c.value,
+            block: b.value,
+            word: w.value,
+            value: v.value,
         },
     }
 }
@@ -102,22 +114,21 @@ pub fn read_send(body: &[u8]) -> Parsed
     if body.len() != 24 {
         return nothing();
     }
-    let c = field(body, 0, 0x01);
-    let b = field(body, 4, 0x02);
-    let t = field(body, 8, 0x05);
-    let p = field(body, 12, 0x06);
-    let o = field(body, 16, 0x07);
-    let d = field(body, 20, 0x08);
-    let marks = both(p < 256, both(o < 2, d < 2));
+    let c = field(body, 0, 0x01, 256, true);
+    let b = field(body, 4, 0x02, 256, c.stands);
+    let t = field(body, 8, 0x05, 256, b.stands);
+    let p = field(body, 12, 0x06, 256, t.stands);
+    let o = field(body, 16, 0x07, 2, p.stands);
+    let d = field(body, 20, 0x08, 2, o.stands);
     Parsed {
-        stands: both(c < 256, both(b < 256, both(t < 256, marks))),
+        stands: d.stands,
         step: Step::Send {
-            component: low(c),
-            block: low(b),
-            target: low(t),
-            plain: low(p),
-            owner: o == 1,
-            data: d == 1,
+            component: c.value,
+            block: b.value,
+            target: t.value,
+            plain: p.value,
+            owner: o.value == 1,
+            data: d.value == 1,
         },
     }
 }
@@ -129,10 +140,10 @@ pub fn read_deliver(body: &[u8]) -> Parsed
     if body.len() != 4 {
         return nothing();
     }
-    let i = field(body, 0, 0x09);
+    let i = field(body, 0, 0x09, 256, true);
     Parsed {
-        stands: i < 256,
-        step: Step::Deliver { position: low(i) },
+        stands: i.stands,
+        step: Step::Deliver { position: i.value },
     }
 }
 
@@ -156,10 +167,10 @@ pub fn read_claim(kind: u8, body: &[u8]) -> Parsed
     if body.len() != 8 {
         return nothing();
     }
-    let c = field(body, 0, 0x01);
-    let b = field(body, 4, 0x02);
+    let c = field(body, 0, 0x01, 256, true);
+    let b = field(body, 4, 0x02, 256, c.stands);
     Parsed {
-        stands: both(c < 256, b < 256),
-        step: claim(kind, low(c), low(b)),
+        stands: b.stands,
+        step: claim(kind, c.value, b.value),
     }
 }

@@ -1,6 +1,7 @@
 // Step records: the reader. specs/Reader.antt says what it gives for every bytes.
 ghost use mathlib.Core.Path.{_≡_};
-ghost use Rattle.bodies.specs.Body.{readAs, readBody};
+ghost use Rattle.bodies.specs.Body.{readBody};
+ghost use Rattle.bodies.specs.Seen.{readAs};
 ghost use Rattle.reader.specs.Reader.{readRecord};
 use bodies::Parsed;
 use kinds::Reading;

@@ -22,13 +22,22 @@ add-wrapping-sub-u32 c = search needs
 wrapping-sub-u32-requires : tie.Need-wrapping-sub-u32-requires
 wrapping-sub-u32-requires c κs = search needs
 
+both-requires : tie.Need-both-requires
+both-requires c κs = search needs
+
+cast-t13 : tie.Need-cast-t13
+cast-t13 c = search needs
+
 returns : tie.Need-returns
 returns c =
-    let s = c .before .before .before .before in
-    let w = c .before .wide .ensures in
-    seen-at (s .args .bytes .now) (λ k. c .before .before .before .shared-slice-known .given k .fits) (s .args .at) (s .args .tag) (c .wrapping-sub-u32 .result)
-    (c .before .before .number-at .result) (s .pre) (omega (arith, w)) (search needs) (c .before .before .number-at .ensures)
-    ((λ i. (c .wrapping-sub-u32 .result + (sym (w .0) i * 16777216 + 256)) % 2 ^ 32) ∙ c .wrapping-sub-u32 .ensures)
+    let sub = c .before in
+    let w = sub .before in
+    let found = w .before in
+    let s = found .before .before in
+    let left = sub .wrapping-sub-u32 in
+    seen-at (s .args .bytes .now) (λ k. found .before .shared-slice-known .given k .fits) (s .args .at) (s .args .tag) (s .args .limit) (left .result) (found .number-at .result)
+    (s .pre .0) (omega (arith, w .wide .ensures)) (s .pre .1) (search needs) (found .number-at .ensures)
+    ((λ i. (left .result + (sym (w .wide .ensures .0) i * 16777216 + 256)) % 2 ^ 32) ∙ left .ensures) (s .args .so) (c .both .result) (c .both .ensures)
 
 pub field-spec : {M : Type 1} → statement M
 field-spec =
@@ -39,4 +48,6 @@ field-spec =
     mul-wrapping-sub-u32
     add-wrapping-sub-u32
     wrapping-sub-u32-requires
+    both-requires
+    cast-t13
     returns)

@@ -20,38 +20,19 @@ field-requires c κs = search needs
 field-requires-2 : tie.Need-field-requires-2
 field-requires-2 c κs = search needs
 
-both-requires : tie.Need-both-requires
-both-requires c κs = search needs
-
-low-requires : tie.Need-low-requires
-low-requires c κs = search needs
-
-low-requires-2 : tie.Need-low-requires-2
-low-requires-2 c κs = search needs
-
 claim-requires : tie.Need-claim-requires
 claim-requires c κs = search needs
 
 returns-2 : tie.Need-returns-2
 returns-2 c =
-    let all = c .before .before .before in
-    let b = all .before in
+    let b = c .before in
     let f = b .before in
     let len = f .before in
     let s = len .before .before in
-    claim-read (s .args .body .now) (f .field .result) (b .field2 .result) (f .field .ensures) (b .field2 .ensures) (s .args .kind) (len .if1 .left) (all .both .result) (all .both .ensures)
-    (s .pre .0) (s .pre .1) (c .before .before .low .result) (c .before .low2 .result) (c .claim .result) (c .before .before .low .ensures) (c .before .low2 .ensures) (c .claim .ensures)
+    claim-read (s .args .kind) (s .args .body .now) (len .if1 .left) (f .field .result .stands) (b .field2 .result .stands) (f .field .result .value) (b .field2 .result .value)
+    (f .field .ensures) (b .field2 .ensures) (s .pre .0) (s .pre .1) (c .claim .result) (c .claim .ensures)
 
 pub read-claim-spec : {M : Type 1} → statement M
 read-claim-spec =
     tie.close
-    (tie.spec
-    nothing-requires
-    returns
-    field-requires
-    field-requires-2
-    both-requires
-    low-requires
-    low-requires-2
-    claim-requires
-    returns-2)
+    (tie.spec nothing-requires returns field-requires field-requires-2 claim-requires returns-2)

@@ -1,8 +1,8 @@
 -- `bodies::read_deliver` meets its contract: one field, which fills the body.
-use mathlib.Core.Path.{_∙_}
+use mathlib.Core.Path.{refl, sym, _∙_}
+use mathlib.Core.List.{[], _∷_}
 use Rattle.kinds.specs.Kinds.{kindOf}
-use Rattle.bodies.proofs.Seeing.{other-length}
-use Rattle.bodies.proofs.ByKind.{deliver-reads}
+use Rattle.bodies.proofs.Seeing.{other-length, kind-reads}
 use borrow.Author.Needs.{needs}
 use Rattle.bodies.proofs.read_deliver.Statement.{statement}
 use Rattle.bodies.proofs.read_deliver.Tie as tie
@@ -17,20 +17,13 @@ returns c = c .nothing .ensures ∙ other-length 0x13 _ (c .before .if1 .taken)
 field-requires : tie.Need-field-requires
 field-requires c κs = search needs
 
-low-requires : tie.Need-low-requires
-low-requires c κs = search needs
-
 returns-2 : tie.Need-returns-2
+unfolding kindOf
 returns-2 c =
-    let f = c .before in
-    deliver-reads (f .before .before .before .args .body .now) (f .field .result) (c .low .result) (f .before .if1 .left) (f .field .ensures) (c .low .ensures)
+    let f1 = c in
+    let len = f1 .before in
+    kind-reads 0x13 (len .before .before .args .body .now) ((f1 .field .result .stands, f1 .field .result .value) ∷ []) refl
+    (f1 .field .ensures, sym (len .if1 .left))
 
 pub read-deliver-spec : {M : Type 1} → statement M
-read-deliver-spec =
-    tie.close
-    (tie.spec
-    nothing-requires
-    returns
-    field-requires
-    low-requires
-    returns-2)
+read-deliver-spec = tie.close (tie.spec nothing-requires returns field-requires returns-2)

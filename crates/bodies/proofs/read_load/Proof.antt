@@ -1,10 +1,8 @@
 -- `bodies::read_load` meets its contract: three fields, which fill the body.
-use mathlib.Core.Path.{_∙_}
-use mathlib.Core.Bool.{_&&_}
-use lib.Dec.{ltb}
+use mathlib.Core.Path.{refl, sym, _∙_}
+use mathlib.Core.List.{[], _∷_}
 use Rattle.kinds.specs.Kinds.{kindOf}
-use Rattle.bodies.proofs.Seeing.{other-length}
-use Rattle.bodies.proofs.ByKind.{load-reads}
+use Rattle.bodies.proofs.Seeing.{other-length, kind-reads}
 use borrow.Author.Needs.{needs}
 use Rattle.bodies.proofs.read_load.Statement.{statement}
 use Rattle.bodies.proofs.read_load.Tie as tie
@@ -25,45 +23,17 @@ field-requires-2 c κs = search needs
 field-requires-3 : tie.Need-field-requires-3
 field-requires-3 c κs = search needs
 
-both-requires : tie.Need-both-requires
-both-requires c κs = search needs
-
-both-requires-2 : tie.Need-both-requires-2
-both-requires-2 c κs = search needs
-
-low-requires : tie.Need-low-requires
-low-requires c κs = search needs
-
-low-requires-2 : tie.Need-low-requires-2
-low-requires-2 c κs = search needs
-
-low-requires-3 : tie.Need-low-requires-3
-low-requires-3 c κs = search needs
-
 returns-2 : tie.Need-returns-2
+unfolding kindOf
 returns-2 c =
-    let all = c .before .before .before in
-    let rest = all .before in
-    let w = rest .before in
-    let b = w .before in
-    let f = b .before in
-    let len = f .before in
-    let s = len .before .before in
-    load-reads (s .args .body .now) (f .field .result) (b .field2 .result) (f .field .ensures) (b .field2 .ensures) (w .field3 .result) (w .field3 .ensures) (c .before .before .low .result) (c .before .low2 .result) (c .low3 .result) (c .before .before .low .ensures) (c .before .low2 .ensures) (c .low3 .ensures)
-    (all .both2 .result) (len .if1 .left) (all .both2 .ensures ∙ (λ i. ltb (f .field .result) 256 && rest .both .ensures i))
+    let f3 = c in
+    let f2 = f3 .before in
+    let f1 = f2 .before in
+    let len = f1 .before in
+    kind-reads 0x10 (len .before .before .args .body .now) ((f1 .field .result .stands, f1 .field .result .value) ∷ (f2 .field2 .result .stands, f2 .field2 .result .value) ∷ (f3 .field3 .result .stands, f3 .field3 .result .value) ∷ []) refl
+    (f1 .field .ensures, (f2 .field2 .ensures, (f3 .field3 .ensures, sym (len .if1 .left))))
 
 pub read-load-spec : {M : Type 1} → statement M
 read-load-spec =
     tie.close
-    (tie.spec
-    nothing-requires
-    returns
-    field-requires
-    field-requires-2
-    field-requires-3
-    both-requires
-    both-requires-2
-    low-requires
-    low-requires-2
-    low-requires-3
-    returns-2)
+    (tie.spec nothing-requires returns field-requires field-requires-2 field-requires-3 returns-2)

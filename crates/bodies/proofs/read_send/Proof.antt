@@ -1,10 +1,8 @@
 -- `bodies::read_send` meets its contract: six fields, which fill the body.
-use mathlib.Core.Path.{_∙_}
-use mathlib.Core.Bool.{_&&_}
-use lib.Dec.{ltb}
+use mathlib.Core.Path.{refl, sym, _∙_}
+use mathlib.Core.List.{[], _∷_}
 use Rattle.kinds.specs.Kinds.{kindOf}
-use Rattle.bodies.proofs.Seeing.{other-length}
-use Rattle.bodies.proofs.ByKind.{send-reads}
+use Rattle.bodies.proofs.Seeing.{other-length, kind-reads}
 use borrow.Author.Needs.{needs}
 use Rattle.bodies.proofs.read_send.Statement.{statement}
 use Rattle.bodies.proofs.read_send.Tie as tie
@@ -34,53 +32,18 @@ field-requires-5 c κs = search needs
 field-requires-6 : tie.Need-field-requires-6
 field-requires-6 c κs = search needs
 
-both-requires : tie.Need-both-requires
-both-requires c κs = search needs
-
-both-requires-2 : tie.Need-both-requires-2
-both-requires-2 c κs = search needs
-
-both-requires-3 : tie.Need-both-requires-3
-both-requires-3 c κs = search needs
-
-both-requires-4 : tie.Need-both-requires-4
-both-requires-4 c κs = search needs
-
-both-requires-5 : tie.Need-both-requires-5
-both-requires-5 c κs = search needs
-
-low-requires : tie.Need-low-requires
-low-requires c κs = search needs
-
-low-requires-2 : tie.Need-low-requires-2
-low-requires-2 c κs = search needs
-
-low-requires-3 : tie.Need-low-requires-3
-low-requires-3 c κs = search needs
-
-low-requires-4 : tie.Need-low-requires-4
-low-requires-4 c κs = search needs
-
 returns-2 : tie.Need-returns-2
+unfolding kindOf
 returns-2 c =
-    let all = c .before .before .before .before in
-    let four = all .before in
-    let three = four .before in
-    let two = three .before in
-    let one = two .before in
-    let d = one .before in
-    let o = d .before in
-    let p = o .before in
-    let t = p .before in
-    let b = t .before in
-    let f = b .before in
-    let len = f .before in
-    let s = len .before .before in
-    send-reads (s .args .body .now) (f .field .result) (b .field2 .result) (f .field .ensures) (b .field2 .ensures)
-    (t .field3 .result) (p .field4 .result) (o .field5 .result) (d .field6 .result) (t .field3 .ensures) (p .field4 .ensures) (o .field5 .ensures) (d .field6 .ensures)
-    (c .before .before .before .low .result) (c .before .before .low2 .result) (c .before .low3 .result) (c .low4 .result) (two .both2 .result) (all .both5 .result) (len .if1 .left) (c .before .before .before .low .ensures) (c .before .before .low2 .ensures) (c .before .low3 .ensures) (c .low4 .ensures)
-    (two .both2 .ensures ∙ (λ i. ltb (p .field4 .result) 256 && one .both .ensures i))
-    (all .both5 .ensures ∙ (λ i. ltb (f .field .result) 256 && (four .both4 .ensures ∙ (λ j. ltb (b .field2 .result) 256 && three .both3 .ensures j)) i))
+    let f6 = c .before .before in
+    let f5 = f6 .before in
+    let f4 = f5 .before in
+    let f3 = f4 .before in
+    let f2 = f3 .before in
+    let f1 = f2 .before in
+    let len = f1 .before in
+    kind-reads 0x12 (len .before .before .args .body .now) ((f1 .field .result .stands, f1 .field .result .value) ∷ (f2 .field2 .result .stands, f2 .field2 .result .value) ∷ (f3 .field3 .result .stands, f3 .field3 .result .value) ∷ (f4 .field4 .result .stands, f4 .field4 .result .value) ∷ (f5 .field5 .result .stands, f5 .field5 .result .value) ∷ (f6 .field6 .result .stands, f6 .field6 .result .value) ∷ []) refl
+    (f1 .field .ensures, (f2 .field2 .ensures, (f3 .field3 .ensures, (f4 .field4 .ensures, (f5 .field5 .ensures, (f6 .field6 .ensures, sym (len .if1 .left)))))))
 
 pub read-send-spec : {M : Type 1} → statement M
 read-send-spec =
@@ -94,13 +57,4 @@ read-send-spec =
     field-requires-4
     field-requires-5
     field-requires-6
-    both-requires
-    both-requires-2
-    both-requires-3
-    both-requires-4
-    both-requires-5
-    low-requires
-    low-requires-2
-    low-requires-3
-    low-requires-4
     returns-2)
