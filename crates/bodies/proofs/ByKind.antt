@@ -84,15 +84,15 @@ no-kind k s h = torn-body k s (rw none (⊎-elim (λ e. absurd (no-field s e)) (
         )
 
 -- a component and a block, and the step of the kind
-module _ (k : ℕ) (s : List ℕ) (n : length s ≡ 8) (t u : Bool) (x y : ℕ) (c : Seen true component s t x) (b : Seen t block (drop 4 s) u y) where
+module _ (k : ℕ) (s : List ℕ) (n : length s ≡ 8) (t u : Bool) (x y : ℕ) (c : Seen component s t x) (b : Seen block (drop 4 s) u y) where
   seen : List (Bool × ℕ)
   seen = (t, x) ∷ (u, y) ∷ []
 
-  claim-reads : (r : Step) → r ≡ kindOf k .step (k ∷ x ∷ y ∷ []) → Claiming k → cond u (Read r) (Refused Torn) ≡ readBody k s
+  claim-reads : (v : Bool) → v ≡ (t && u) → (r : Step) → r ≡ kindOf k .step (k ∷ x ∷ y ∷ []) → Claiming k → cond v (Read r) (Refused Torn) ≡ readBody k s
   unfolding seen
-  claim-reads r er (claiming f is) =
+  claim-reads v ev r er (claiming f is) =
       let told : r ≡ kindOf k .step (puts (kindOf k .fields) seen (k ∷ 0 ∷ 0 ∷ 0 ∷ 0 ∷ 0 ∷ 0 ∷ 0 ∷ 0 ∷ 0 ∷ 0 ∷ 0 ∷ [])) = er ∙ rw is refl in
-      ap (λ (q : Step). cond u (Read q) (Refused Torn)) told ∙ kind-reads k s seen (rw is refl) (rw is (c, (b, sym n)))
+      ap (λ (q : Step). cond v (Read q) (Refused Torn)) told ∙ kind-reads k s v seen ev (rw is refl) (rw is (c, (b, sym n)))
 
-  pub claim-read : 0x14 ≤ k → k ≤ 0x16 → (r : Step) → r ≡ kindOf k .step (k ∷ x ∷ y ∷ []) → cond u (Read r) (Refused Torn) ≡ readBody k s
-  claim-read l h r er = claim-reads r er (claims-kind k l h)
+  pub claim-read : 0x14 ≤ k → k ≤ 0x16 → (v : Bool) → v ≡ (t && u) → (r : Step) → r ≡ kindOf k .step (k ∷ x ∷ y ∷ []) → cond v (Read r) (Refused Torn) ≡ readBody k s
+  claim-read l h v ev r er = claim-reads v ev r er (claims-kind k l h)

@@ -2,7 +2,7 @@
 use Prim.Native.Nat.{ℕ, _+_, _*_, _/_, _%_, _^_, _≤_, _<_}
 use native.Mathlib.Omega.{arith}
 use mathlib.Core.Path.{_≡_, refl, sym, ap, _∙_, subst}
-use mathlib.Core.Bool.{Bool, true, false, cond, _&&_, and-assoc}
+use mathlib.Core.Bool.{Bool, true, false, cond, _&&_}
 use mathlib.Core.List.{List, [], _∷_}
 use lib.Dec.{eqb, ltb}
 use lib.ListN.{length, getD, set, take, drop, length-drop}
@@ -28,9 +28,9 @@ use Rattle.bodies.proofs.Bodies.{torn-body, step-body}
 -- four bytes less a tag and the length 1, as one number
 seen-byte : (t l a b c d r : ℕ) (rest : List ℕ) → t < 256 → l ≤ 256 → a < 256 → b < 256 → c < 256 → d < 256 → r < 2 ^ 32
     → (r + (t * 16777216 + 256)) % 2 ^ 32 ≡ a * 16777216 + b * 65536 + c * 256 + d
-    → (ltb r l ≡ stands (byteField t l) (a ∷ b ∷ c ∷ d ∷ rest)) × (ltb r l ≡ true → valueAt (byteField t l) (a ∷ b ∷ c ∷ d ∷ rest) ≡ r % 256)
+    → (ltb r l ≡ stands (byteField t l) (a ∷ b ∷ c ∷ d ∷ rest)) × (ltb r l ≡ true → valueAt (byteField t l) (a ∷ b ∷ c ∷ d ∷ rest) ≡ r)
 seen-byte t l a b c d r rest ht hl ha hb hc hd hr e =
-    (same-test (ltb r l) (stands f bs) back there, λ h. omega (arith, digits-of (ltb-true r l h), ltb-true r l h))
+    (same-test (ltb r l) (stands f bs) back there, λ h. omega (arith, digits-of (ltb-true r l h)))
   where
     f : Field
     f = byteField t l
@@ -61,13 +61,13 @@ seen-byte t l a b c d r rest ht hl ha hb hc hd hr e =
 
 module _ (s : List ℕ) (bytes : Bytes s) (at : ℕ) where
   -- r is the number of the four bytes at a place, less the tag and the length
-  pub seen-at : (t l r x : ℕ) → at + 4 ≤ length s → t < 256 → l ≤ 256 → r < 2 ^ 32 → x ≡ number (take 4 (drop at s)) → (r + (t * 16777216 + 256)) % 2 ^ 32 ≡ x
-      → (so u : Bool) → u ≡ (so && ltb r l) → Seen so (byteField t l) (drop at s) u (r % 256)
-  seen-at t l r x room ht hl hr ex e so u eu =
+  pub seen-at : (t r x : ℕ) → at + 4 ≤ length s → t < 256 → r < 2 ^ 32 → x ≡ number (take 4 (drop at s)) → (r + (t * 16777216 + 256)) % 2 ^ 32 ≡ x
+      → (l : ℕ) → l ≤ 256 → Seen (byteField t l) (drop at s) (ltb r l) r
+  seen-at t r x room ht hr ex e l hl =
       let is =
-      subst (λ (bs : List ℕ). (ltb r l ≡ stands (byteField t l) bs) × (ltb r l ≡ true → valueAt (byteField t l) bs ≡ r % 256)) (sym (four at s room))
+      subst (λ (bs : List ℕ). (ltb r l ≡ stands (byteField t l) bs) × (ltb r l ≡ true → valueAt (byteField t l) bs ≡ r)) (sym (four at s room))
       (seen-byte t l _ _ _ _ r _ ht hl (bytes at) (bytes (at + 1)) (bytes (at + 2)) (bytes (at + 3)) hr (e ∙ ex ∙ number-four at s room)) in
-      record { stood = eu ∙ ap (λ (b : Bool). so && b) (is .0); value = λ h. is .1 (and-r so (ltb r l) (sym eu ∙ h)) }
+      record { stood = is .0; value = is .1 }
 
   -- x is the number of the four bytes at the place of a value
   stands-value : (x : ℕ) → at + 7 ≤ length s → x ≡ number (take 4 (drop at s)) → eqb (x / 256) 0x040004 ≡ stands value (drop at s)
@@ -92,25 +92,27 @@ module _ (s : List ℕ) (bytes : Bytes s) (at : ℕ) where
       eq-eqb (x / 256) 0x040004 (omega (arith, is, sym first ∙ k .tag, sym wide ∙ k .width, bytes (at + 3))))
 
   pub seen-value : (x v : ℕ) → at + 7 ≤ length s → x ≡ number (take 4 (drop at s)) → v ≡ number (take 4 (drop (at + 3) s))
-      → (so u : Bool) → u ≡ (so && eqb (x / 256) 0x040004) → Seen so value (drop at s) u v
-  seen-value x v room ex ev so u eu =
-      record {
-        stood = eu ∙ ap (λ (b : Bool). so && b) (stands-value x room ex);
-        value = λ h. ap (λ (l : List ℕ). number (take 4 l)) (drop-drop 3 at s) ∙ sym ev;
-      }
+      → Seen value (drop at s) (eqb (x / 256) 0x040004) v
+  seen-value x v room ex ev =
+      record { stood = stands-value x room ex; value = λ h. ap (λ (l : List ℕ). number (take 4 l)) (drop-drop 3 at s) ∙ sym ev }
+
+-- a number below 256 is its low byte
+pub low-seen : (f : Field) (bs : List ℕ) (r : ℕ) → Seen f bs (ltb r 256) r → Seen f bs (ltb r 256) (r % 256)
+low-seen f bs r h = record { stood = h .stood; value = λ t. h .value t ∙ omega (arith, ltb-true r 256 t) }
 
 -- ---- fields at their places
 
 -- what was seen of fields, one after the other from a place on up to the end
-abbrev pub Reads : List Field → ℕ → List ℕ → Bool → List (Bool × ℕ) → Type 0
-Reads [] at s so xs = at ≡ length s
-Reads (f ∷ fs) at s so [] = ⊥
-Reads (f ∷ fs) at s so (x ∷ xs) = Seen so f (drop at s) (x .0) (x .1) × Reads fs (at + size f) s (x .0) xs
+abbrev pub Reads : List Field → ℕ → List ℕ → List (Bool × ℕ) → Type 0
+Reads [] at s xs = at ≡ length s
+Reads (f ∷ fs) at s [] = ⊥
+Reads (f ∷ fs) at s (x ∷ xs) = Seen f (drop at s) (x .0) (x .1) × Reads fs (at + size f) s xs
 
 -- whether all stand
-abbrev pub all : Bool → List (Bool × ℕ) → Bool
-all so [] = so
-all so (x ∷ xs) = all (x .0) xs
+abbrev pub all : List (Bool × ℕ) → Bool
+all [] = true
+all (x ∷ []) = x .0
+all (x ∷ y ∷ xs) = x .0 && all (y ∷ xs)
 
 -- the numbers with the fields' values
 abbrev pub puts : List Field → List (Bool × ℕ) → List ℕ → List ℕ
@@ -118,23 +120,25 @@ puts [] xs p = p
 puts (f ∷ fs) [] p = p
 puts (f ∷ fs) (x ∷ xs) p = puts fs xs (set p (f .tag) (x .1))
 
-fill-reads : (fs : List Field) (at : ℕ) (s : List ℕ) (so : Bool) (xs : List (Bool × ℕ)) → length xs ≡ length fs → Reads fs at s so xs
-    → all so xs ≡ (so && fill fs (drop at s))
-fill-reads [] at s so [] l h = sym (ap (λ (b : Bool). so && b) (eq-eqb (length (drop at s)) 0 (length-drop at s ∙ omega (arith, h))) ∙ and-true so)
-fill-reads [] at s so (x ∷ xs) l h = absurd (omega arith)
-fill-reads (f ∷ fs) at s so [] l h = absurd h
-fill-reads (f ∷ fs) at s so (x ∷ xs) l h =
-    fill-reads fs (at + size f) s (x .0) xs (omega arith) (h .1) ∙ (λ i. h .0 .stood i && fill fs (sym (drop-drop (size f) at s) i))
-    ∙ and-assoc so (stands f (drop at s)) (fill fs (drop (size f) (drop at s)))
+all-first : (x : Bool × ℕ) (xs : List (Bool × ℕ)) → all (x ∷ xs) ≡ (x .0 && all xs)
+all-first x [] = sym (and-true (x .0))
+all-first x (y ∷ xs) = refl
 
-gathered-reads : (fs : List Field) (at : ℕ) (s : List ℕ) (so : Bool) (xs : List (Bool × ℕ)) (p : List ℕ) → length xs ≡ length fs → Reads fs at s so xs
-    → all so xs ≡ true → gathered fs (drop at s) p ≡ puts fs xs p
-gathered-reads [] at s so xs p l h t = refl
-gathered-reads (f ∷ fs) at s so [] p l h t = absurd h
-gathered-reads (f ∷ fs) at s so (x ∷ xs) p l h t =
-    let stood : x .0 ≡ true = and-l (x .0) _ (sym (fill-reads fs (at + size f) s (x .0) xs (omega arith) (h .1)) ∙ t) in
-    (λ i. gathered fs (drop-drop (size f) at s i) (set p (f .tag) (h .0 .value stood i)))
-    ∙ gathered-reads fs (at + size f) s (x .0) xs (set p (f .tag) (x .1)) (omega arith) (h .1) t
+fill-reads : (fs : List Field) (at : ℕ) (s : List ℕ) (xs : List (Bool × ℕ)) → length xs ≡ length fs → Reads fs at s xs → all xs ≡ fill fs (drop at s)
+fill-reads [] at s [] l h = sym (eq-eqb (length (drop at s)) 0 (length-drop at s ∙ omega (arith, h)))
+fill-reads [] at s (x ∷ xs) l h = absurd (omega arith)
+fill-reads (f ∷ fs) at s [] l h = absurd h
+fill-reads (f ∷ fs) at s (x ∷ xs) l h =
+    all-first x xs ∙ (λ i. h .0 .stood i && (fill-reads fs (at + size f) s xs (omega arith) (h .1) ∙ ap (fill fs) (sym (drop-drop (size f) at s))) i)
+
+gathered-reads : (fs : List Field) (at : ℕ) (s : List ℕ) (xs : List (Bool × ℕ)) (p : List ℕ) → Reads fs at s xs → all xs ≡ true
+    → gathered fs (drop at s) p ≡ puts fs xs p
+gathered-reads [] at s xs p h t = refl
+gathered-reads (f ∷ fs) at s [] p h t = absurd h
+gathered-reads (f ∷ fs) at s (x ∷ xs) p h t =
+    let both : (x .0 && all xs) ≡ true = sym (all-first x xs) ∙ t in
+    (λ i. gathered fs (drop-drop (size f) at s i) (set p (f .tag) (h .0 .value (and-l (x .0) (all xs) both) i)))
+    ∙ gathered-reads fs (at + size f) s xs (set p (f .tag) (x .1)) (h .1) (and-r (x .0) (all xs) both)
 
 -- ---- a body
 
@@ -150,16 +154,9 @@ module _ (k : ℕ) (s : List ℕ) where
   other-length n = torn-body k s (⊎-elim (λ h. absurd (n (length-filled (kindOf k .fields) s h))) (λ h. h) (either (fill (kindOf k .fields) s)))
 
   -- fields that were seen, and their numbers
-  pub kind-reads : (xs : List (Bool × ℕ)) → length xs ≡ length (kindOf k .fields) → Reads (kindOf k .fields) 0 s true xs
-      → cond (all true xs) (Read (kindOf k .step (puts (kindOf k .fields) xs (k ∷ 0 ∷ 0 ∷ 0 ∷ 0 ∷ 0 ∷ 0 ∷ 0 ∷ 0 ∷ 0 ∷ 0 ∷ 0 ∷ [])))) (Refused Torn) ≡ readBody k s
-  kind-reads xs l h = by (all true xs) refl
-    where
-      filled-if : all true xs ≡ fill (kindOf k .fields) s
-      filled-if = fill-reads (kindOf k .fields) 0 s true xs l h
-
-      by : (t : Bool) → all true xs ≡ t
-          → cond t (Read (kindOf k .step (puts (kindOf k .fields) xs (k ∷ 0 ∷ 0 ∷ 0 ∷ 0 ∷ 0 ∷ 0 ∷ 0 ∷ 0 ∷ 0 ∷ 0 ∷ 0 ∷ [])))) (Refused Torn) ≡ readBody k s
-      by true t =
-          ap (λ (p : List ℕ). Read (kindOf k .step p)) (sym (gathered-reads (kindOf k .fields) 0 s true xs _ l h t))
-          ∙ step-body k s (sym filled-if ∙ t)
-      by false t = torn-body k s (sym filled-if ∙ t)
+  pub kind-reads : (t : Bool) (xs : List (Bool × ℕ)) → t ≡ all xs → length xs ≡ length (kindOf k .fields) → Reads (kindOf k .fields) 0 s xs
+      → cond t (Read (kindOf k .step (puts (kindOf k .fields) xs (k ∷ 0 ∷ 0 ∷ 0 ∷ 0 ∷ 0 ∷ 0 ∷ 0 ∷ 0 ∷ 0 ∷ 0 ∷ 0 ∷ [])))) (Refused Torn) ≡ readBody k s
+  kind-reads true xs e l h =
+      ap (λ (p : List ℕ). Read (kindOf k .step p)) (sym (gathered-reads (kindOf k .fields) 0 s xs _ h (sym e)))
+      ∙ step-body k s (sym (fill-reads (kindOf k .fields) 0 s xs l h) ∙ sym e)
+  kind-reads false xs e l h = torn-body k s (sym (fill-reads (kindOf k .fields) 0 s xs l h) ∙ sym e)

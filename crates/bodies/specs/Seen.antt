@@ -1,7 +1,7 @@
 -- Document 01, "Step records": what the reader's parts tell of a field, and of a body.
 use Prim.Native.Nat.{ℕ}
 use mathlib.Core.Path.{_≡_}
-use mathlib.Core.Bool.{Bool, true, _&&_, cond}
+use mathlib.Core.Bool.{Bool, true, cond}
 use mathlib.Core.List.{List}
 use Rattle.refusals.specs.declared.Refusal.the-variants.{Torn}
 use Rattle.kinds.specs.declared.Field.{Field}
@@ -14,9 +14,9 @@ use Rattle.bodies.specs.Body.{stands, valueAt}
 abbrev pub byteField : ℕ → ℕ → Field
 byteField t l = record { tag = t; width = 1; limit = l }
 
--- t says whether fields stood so far and the field stands at the front of the bytes, and r is its value where all do
-pub record Seen (so : Bool) (f : Field) (bs : List ℕ) (t : Bool) (r : ℕ) : Type 0 where
-  pub stood : t ≡ (so && stands f bs)
+-- t says whether the field stands at the front of the bytes, and r is its value where it does
+pub record Seen (f : Field) (bs : List ℕ) (t : Bool) (r : ℕ) : Type 0 where
+  pub stood : t ≡ stands f bs
   pub value : t ≡ true → valueAt f bs ≡ r
 
 -- what a body reads as, by what was parsed of it

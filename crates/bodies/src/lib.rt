@@ -1,7 +1,8 @@
 // Step records: the body of each kind's record, read. specs/Body.antt says what each gives for every bytes.
 ghost use mathlib.Core.Path.{_≡_};
 ghost use mathlib.Core.List.{[], _∷_};
-ghost use Prim.Native.Nat.{_+_, _≤_};
+ghost use Prim.Native.Nat.{ℕ, _+_, _≤_};
+ghost use lib.Dec.{ltb};
 ghost use lib.ListN.{length, drop};
 ghost use Rattle.refusals.specs.declared.Refusal.the-variants.{Torn};
 ghost use Rattle.kinds.specs.declared.Reading.the-variants.{Refused};
@@ -18,10 +19,10 @@ pub struct Parsed {
     pub step: Step,
 }
 
-// A field of one byte: whether it and the fields before it stand, and its value where they do.
-struct Byte {
-    stands: bool,
-    value: u8,
+// A field of one byte: whether it stands, and its value where it does.
+pub struct Byte {
+    pub stands: bool,
+    pub value: u8,
 }
 
 // The same of a field of four bytes.
@@ -30,27 +31,35 @@ struct Value {
     value: u32,
 }
 
-// The field of one byte with this tag and limit at a place, behind fields that stand or not.
+// The number of the field of one byte with this tag, where it stands at a place; a number above 255 where anything else does.
 // Tag and length are taken off the four bytes as one number.
-fn field(bytes: &[u8], at: usize, tag: u8, limit: u32, so: bool) -> Byte
-    requires { ⌜ (at + 4 ≤ length (now bytes)) × (limit ≤ 256) ⌝ }
-    ensures { λ r. ⌜ Seen so (byteField tag limit) (drop at (now (bytes .entry))) (r .stands) (r .value) ⌝ }
+pub fn found(bytes: &[u8], at: usize, tag: u8) -> u32
+    requires { ⌜ at + 4 ≤ length (now bytes) ⌝ }
+    ensures { λ r. ⌜ ((limit : ℕ) → limit ≤ 256 → Seen (byteField tag limit) (drop at (now (bytes .entry))) (ltb r limit) r) ⌝ }
 {
     let found = numbers::number_at(bytes, at);
-    let left = std::num::wrapping_sub_u32(found, wide(tag) * 16777216 + 256);
+    std::num::wrapping_sub_u32(found, wide(tag) * 16777216 + 256)
+}
+
+// The field of one byte with this tag at a place.
+pub fn field(bytes: &[u8], at: usize, tag: u8) -> Byte
+    requires { ⌜ at + 4 ≤ length (now bytes) ⌝ }
+    ensures { λ r. ⌜ Seen (byteField tag 256) (drop at (now (bytes .entry))) (r .stands) (r .value) ⌝ }
+{
+    let number = found(bytes, at, tag);
     Byte {
-        stands: both(so, left < limit),
-        value: (left % 256) as u8,
+        stands: number < 256,
+        value: (number % 256) as u8,
     }
 }
 
-// The value of four bytes at a place, behind fields that stand or not.
-fn word(bytes: &[u8], at: usize, so: bool) -> Value
+// The value of four bytes at a place.
+fn word(bytes: &[u8], at: usize) -> Value
     requires { ⌜ at + 7 ≤ length (now bytes) ⌝ }
-    ensures { λ r. ⌜ Seen so value (drop at (now (bytes .entry))) (r .stands) (r .value) ⌝ }
+    ensures { λ r. ⌜ Seen value (drop at (now (bytes .entry))) (r .stands) (r .value) ⌝ }
 {
     Value {
-        stands: both(so, numbers::number_at(bytes, at) / 256 == 0x040004),
+        stands: numbers::number_at(bytes, at) / 256 == 0x040004,
         value: numbers::number_at(bytes, at + 3),
     }
 }
@@ -72,11 +81,11 @@ pub fn read_load(body: &[u8]) -> Parsed
     if body.len() != 12 {
         return nothing();
     }
-    let c = field(body, 0, 0x01, 256, true);
-    let b = field(body, 4, 0x02, 256, c.stands);
-    let w = field(body, 8, 0x03, 256, b.stands);
+    let c = field(body, 0, 0x01);
+    let b = field(body, 4, 0x02);
+    let w = field(body, 8, 0x03);
     Parsed {
-        stands: w.stands,
+        stands: both(c.stands, both(b.stands, w.stands)),
         step: Step::Load {
             component: c.value,
             block: b.value,
@@ -92,58 +101,18 @@ pub fn read_store(body: &[u8]) -> Parsed
     if body.len() != 19 {
         return nothing();
     }
-    let c = field(body, 0, 0x01, 256, true);
-    let b = field(body, 4, 0x02, 256, c.stands);
-    let w = field(body, 8, 0x03, 256, b.stands);
-    let v = word(body, 12, w.stands);
+    let c = field(body, 0, 0x01);
+    let b = field(body, 4, 0x02);
+    let w = field(body, 8, 0x03);
+    let v = word(body, 12);
     Parsed {
-        stands: v.stands,
+        stands: both(c.stands, both(b.stands, both(w.stands, v.stands))),
         step: Step::Store {
             component: c.value,
             block: b.value,
             word: w.value,
             value: v.value,
         },
-    }
-}
-
-// A send, from its body.
-pub fn read_send(body: &[u8]) -> Parsed
-    ensures { λ r. ⌜ readAs r ≡ readBody 0x12 (now (body .entry)) ⌝ }
-{
-    if body.len() != 24 {
-        return nothing();
-    }
-    let c = field(body, 0, 0x01, 256, true);
-    let b = field(body, 4, 0x02, 256, c.stands);
-    let t = field(body, 8, 0x05, 256, b.stands);
-    let p = field(body, 12, 0x06, 256, t.stands);
-    let o = field(body, 16, 0x07, 2, p.stands);
-    let d = field(body, 20, 0x08, 2, o.stands);
-    Parsed {
-        stands: d.stands,
-        step: Step::Send {
-            component: c.value,
-            block: b.value,
-            target: t.value,
-            plain: p.value,
-            owner: o.value == 1,
-            data: d.value == 1,
-        },
-    }
-}
-
-// A deliver, from its body.
-pub fn read_deliver(body: &[u8]) -> Parsed
-    ensures { λ r. ⌜ readAs r ≡ readBody 0x13 (now (body .entry)) ⌝ }
-{
-    if body.len() != 4 {
-        return nothing();
-    }
-    let i = field(body, 0, 0x09, 256, true);
-    Parsed {
-        stands: i.stands,
-        step: Step::Deliver { position: i.value },
     }
 }
 
@@ -167,10 +136,10 @@ pub fn read_claim(kind: u8, body: &[u8]) -> Parsed
     if body.len() != 8 {
         return nothing();
     }
-    let c = field(body, 0, 0x01, 256, true);
-    let b = field(body, 4, 0x02, 256, c.stands);
+    let c = field(body, 0, 0x01);
+    let b = field(body, 4, 0x02);
     Parsed {
-        stands: b.stands,
+        stands: both(c.stands, b.stands),
         step: claim(kind, c.value, b.value),
     }
 }

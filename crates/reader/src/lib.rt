@@ -14,8 +14,8 @@ fn read_body(kind: u8, body: &[u8]) -> Parsed
     match kind {
         0x10 => bodies::read_load(body),
         0x11 => bodies::read_store(body),
-        0x12 => bodies::read_send(body),
-        0x13 => bodies::read_deliver(body),
+        0x12 => message_bodies::read_send(body),
+        0x13 => message_bodies::read_deliver(body),
         0x14..=0x16 => bodies::read_claim(kind, body),
         _ => bodies::nothing(),
     }

@@ -20,19 +20,30 @@ field-requires c κs = search needs
 field-requires-2 : tie.Need-field-requires-2
 field-requires-2 c κs = search needs
 
+both-requires : tie.Need-both-requires
+both-requires c κs = search needs
+
 claim-requires : tie.Need-claim-requires
 claim-requires c κs = search needs
 
 returns-2 : tie.Need-returns-2
 returns-2 c =
-    let b = c .before in
+    let all = c .before in
+    let b = all .before in
     let f = b .before in
     let len = f .before in
     let s = len .before .before in
     claim-read (s .args .kind) (s .args .body .now) (len .if1 .left) (f .field .result .stands) (b .field2 .result .stands) (f .field .result .value) (b .field2 .result .value)
-    (f .field .ensures) (b .field2 .ensures) (s .pre .0) (s .pre .1) (c .claim .result) (c .claim .ensures)
+    (f .field .ensures) (b .field2 .ensures) (s .pre .0) (s .pre .1) (all .both .result) (all .both .ensures) (c .claim .result) (c .claim .ensures)
 
 pub read-claim-spec : {M : Type 1} → statement M
 read-claim-spec =
     tie.close
-    (tie.spec nothing-requires returns field-requires field-requires-2 claim-requires returns-2)
+    (tie.spec
+    nothing-requires
+    returns
+    field-requires
+    field-requires-2
+    both-requires
+    claim-requires
+    returns-2)

@@ -7,9 +7,6 @@ use Rattle.bodies.proofs.word.Tie as tie
 number-at-requires : tie.Need-number-at-requires
 number-at-requires c κs = search needs
 
-both-requires : tie.Need-both-requires
-both-requires c κs = search needs
-
 add-number-at : tie.Need-add-number-at
 add-number-at c = search needs
 
@@ -18,13 +15,9 @@ number-at-requires-2 c κs = search needs
 
 returns : tie.Need-returns
 returns c =
-    let all = c .before in
-    let head = all .before in
+    let head = c .before in
     let s = head .before .before in
     seen-value (s .args .bytes .now) (λ k. head .before .shared-slice-known .given k .fits) (s .args .at) (head .number-at .result) (c .number-at2 .result) (s .pre) (head .number-at .ensures) (c .number-at2 .ensures)
-    (s .args .so) (all .both .result) (all .both .ensures)
 
 pub word-spec : {M : Type 1} → statement M
-word-spec =
-    tie.close
-    (tie.spec number-at-requires both-requires add-number-at number-at-requires-2 returns)
+word-spec = tie.close (tie.spec number-at-requires add-number-at number-at-requires-2 returns)

@@ -1,11 +1,11 @@
--- `bodies::read_deliver` meets its contract: one field, which fills the body.
+-- `message_bodies::read_deliver` meets its contract: one field, which fills the body.
 use mathlib.Core.Path.{refl, sym, _∙_}
 use mathlib.Core.List.{[], _∷_}
 use Rattle.kinds.specs.Kinds.{kindOf}
 use Rattle.bodies.proofs.Seeing.{other-length, kind-reads}
 use borrow.Author.Needs.{needs}
-use Rattle.bodies.proofs.read_deliver.Statement.{statement}
-use Rattle.bodies.proofs.read_deliver.Tie as tie
+use Rattle.message_bodies.proofs.read_deliver.Statement.{statement}
+use Rattle.message_bodies.proofs.read_deliver.Tie as tie
 
 nothing-requires : tie.Need-nothing-requires
 nothing-requires c κs = search needs
@@ -20,10 +20,10 @@ field-requires c κs = search needs
 returns-2 : tie.Need-returns-2
 unfolding kindOf
 returns-2 c =
-    let f1 = c in
-    let len = f1 .before in
-    kind-reads 0x13 (len .before .before .args .body .now) ((f1 .field .result .stands, f1 .field .result .value) ∷ []) refl
-    (f1 .field .ensures, sym (len .if1 .left))
+    let field = c .field in
+    let len = c .before in
+    kind-reads 0x13 (len .before .before .args .body .now) (field .result .stands) ((field .result .stands, field .result .value) ∷ []) refl refl
+    (field .ensures, sym (len .if1 .left))
 
 pub read-deliver-spec : {M : Type 1} → statement M
 read-deliver-spec = tie.close (tie.spec nothing-requires returns field-requires returns-2)
