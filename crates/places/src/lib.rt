@@ -1,15 +1,17 @@
-// A step as twelve numbers: kinds has them as a definition, which these contracts cite.
+// A step as twelve numbers, and the fields of its record written from them: kinds has both as definitions, which these contracts cite.
 ghost use mathlib.Core.Path.{_≡_};
-ghost use mathlib.Core.List.{[], _∷_};
+ghost use mathlib.Core.List.{[], _∷_, map};
 ghost use Prim.Native.Nat.{_≤_, _<_};
 ghost use lib.ListN.{length, getD, take};
 ghost use Rattle.base.specs.Folds.{one, sumBelow};
 ghost use Rattle.base.specs.Placing.{place};
-ghost use Rattle.kinds.specs.Kinds.{places};
+ghost use Rattle.kinds.specs.Kinds.{places, fieldOf};
+ghost use Rattle.kinds.specs.Record.{size, sizes, fieldBytes, bodyBytes};
+use kinds::Field;
 use kinds::Step;
 
 // The numbers of a kind whose fields are among 01 to 04.
-fn numbers(kind: u32, component: u8, block: u8, word: u8, value: u32) -> [u32; 12]
+fn first_four(kind: u32, component: u8, block: u8, word: u8, value: u32) -> [u32; 12]
     ensures { λ r. ⌜ r ≡ kind ∷ component ∷ block ∷ word ∷ value ∷ 0 ∷ 0 ∷ 0 ∷ 0 ∷ 0 ∷ 0 ∷ 0 ∷ [] ⌝ }
 {
     [
@@ -57,13 +59,13 @@ pub fn places_of(step: Step) -> [u32; 12]
             component,
             block,
             word,
-        } => numbers(0x10, component, block, word, 0),
+        } => first_four(0x10, component, block, word, 0),
         Step::Store {
             component,
             block,
             word,
             value,
-        } => numbers(0x11, component, block, word, value),
+        } => first_four(0x11, component, block, word, value),
         Step::Send {
             component,
             block,
@@ -73,9 +75,9 @@ pub fn places_of(step: Step) -> [u32; 12]
             data,
         } => sent(component, block, target, plain, owner, data),
         Step::Deliver { position } => [0x13, 0, 0, 0, 0, 0, 0, 0, 0, position as u32, 0, 0],
-        Step::Raise { component, block } => numbers(0x14, component, block, 0, 0),
-        Step::Lower { component, block } => numbers(0x15, component, block, 0, 0),
-        Step::Forward { component, block } => numbers(0x16, component, block, 0, 0),
+        Step::Raise { component, block } => first_four(0x14, component, block, 0, 0),
+        Step::Lower { component, block } => first_four(0x15, component, block, 0, 0),
+        Step::Forward { component, block } => first_four(0x16, component, block, 0, 0),
     }
 }
 
@@ -114,4 +116,47 @@ pub fn copy_twelve(numbers: &[u32], out: &mut [u32])
         out[i] = numbers[i];
         i += 1;
     }
+}
+
+// Places a field with its value at the front of `out`, and gives its size.
+fn put_field(out: &mut [u8], field: Field, value: u64) -> usize
+    requires { ⌜ size field ≤ length (now out) ⌝ }
+    ensures { λ r. ⌜ (r ≡ size field) × (now (out .exit) ≡ place 0 (fieldBytes field value) (now (out .entry))) ⌝ }
+{
+    let width = field.width;
+    let end = 3 + width;
+    out[0] = field.tag;
+    numbers::put_number(&mut out[1..3], width as u64);
+    numbers::put_number(&mut out[3..end], value);
+    end
+}
+
+// Places fields with these tags, one after the other, at the front of `out`.
+pub fn put_fields(out: &mut [u8], tags: &[u8], numbers: &[u32])
+    requires { ⌜ sizes (map fieldOf (now tags)) ≤ length (now out) ⌝ }
+    ensures { λ _. ⌜ now (out .exit) ≡ place 0 (bodyBytes (map fieldOf (now (tags .entry))) (now (numbers .entry))) (now (out .entry)) ⌝ }
+{
+    let mut at = 0;
+    let mut i = 0;
+    while i < tags.len() {
+        let field = table::field_of(tags[i]);
+        let value = number_of(numbers, field.tag);
+        at += put_field(&mut out[at..], field, value);
+        i += 1;
+    }
+}
+
+// The count of bytes that fields with these tags take.
+pub fn fields_size(tags: &[u8]) -> usize
+    requires { ⌜ length (now tags) ≤ 6 ⌝ }
+    ensures { λ r. ⌜ r ≡ sizes (map fieldOf (now (tags .entry))) ⌝ }
+{
+    let mut sum = 0;
+    let mut i = 0;
+    while i < tags.len() {
+        let field = table::field_of(tags[i]);
+        sum += 3 + field.width;
+        i += 1;
+    }
+    sum
 }

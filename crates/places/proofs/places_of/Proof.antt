@@ -8,14 +8,14 @@ use Rattle.places.proofs.places_of.Tie as tie
 enum-known-step : tie.Need-enum-known-step
 enum-known-step c = search needs
 
-numbers-requires : tie.Need-numbers-requires
-numbers-requires c κs = search needs
+first-four-requires : tie.Need-first-four-requires
+first-four-requires c κs = search needs
 
 enum-known-step-2 : tie.Need-enum-known-step-2
 enum-known-step-2 c = search needs
 
-numbers-requires-2 : tie.Need-numbers-requires-2
-numbers-requires-2 c κs = search needs
+first-four-requires-2 : tie.Need-first-four-requires-2
+first-four-requires-2 c κs = search needs
 
 enum-known-step-3 : tie.Need-enum-known-step-3
 enum-known-step-3 c = search needs
@@ -32,28 +32,28 @@ cast-t23 c = search needs
 enum-known-step-5 : tie.Need-enum-known-step-5
 enum-known-step-5 c = search needs
 
-numbers-requires-3 : tie.Need-numbers-requires-3
-numbers-requires-3 c κs = search needs
+first-four-requires-3 : tie.Need-first-four-requires-3
+first-four-requires-3 c κs = search needs
 
 enum-known-step-6 : tie.Need-enum-known-step-6
 enum-known-step-6 c = search needs
 
-numbers-requires-4 : tie.Need-numbers-requires-4
-numbers-requires-4 c κs = search needs
+first-four-requires-4 : tie.Need-first-four-requires-4
+first-four-requires-4 c κs = search needs
 
 enum-known-step-7 : tie.Need-enum-known-step-7
 enum-known-step-7 c = search needs
 
-numbers-requires-5 : tie.Need-numbers-requires-5
-numbers-requires-5 c κs = search needs
+first-four-requires-5 : tie.Need-first-four-requires-5
+first-four-requires-5 c κs = search needs
 
 returns : tie.Need-returns
 unfolding places
-returns c = rw (c .before .before .step .given .1) (c .numbers .ensures)
+returns c = rw (c .before .before .step .given .1) (c .first-four .ensures)
 
 returns-2 : tie.Need-returns-2
 unfolding places
-returns-2 c = rw (c .before .before .step2 .given .1) (c .numbers2 .ensures)
+returns-2 c = rw (c .before .before .step2 .given .1) (c .first-four2 .ensures)
 
 returns-3 : tie.Need-returns-3
 unfolding places
@@ -65,34 +65,34 @@ returns-4 c = rw (c .before .step4 .given .1)
 
 returns-5 : tie.Need-returns-5
 unfolding places
-returns-5 c = rw (c .before .before .step5 .given .1) (c .numbers3 .ensures)
+returns-5 c = rw (c .before .before .step5 .given .1) (c .first-four3 .ensures)
 
 returns-6 : tie.Need-returns-6
 unfolding places
-returns-6 c = rw (c .before .before .step6 .given .1) (c .numbers4 .ensures)
+returns-6 c = rw (c .before .before .step6 .given .1) (c .first-four4 .ensures)
 
 returns-7 : tie.Need-returns-7
 unfolding places
-returns-7 c = rw (c .before .before .step7 .given .1) (c .numbers5 .ensures)
+returns-7 c = rw (c .before .before .step7 .given .1) (c .first-four5 .ensures)
 
 pub places-of-spec : {M : Type 1} → statement M
 places-of-spec =
     tie.close
     (tie.spec
     enum-known-step
-    numbers-requires
+    first-four-requires
     enum-known-step-2
-    numbers-requires-2
+    first-four-requires-2
     enum-known-step-3
     sent-requires
     enum-known-step-4
     cast-t23
     enum-known-step-5
-    numbers-requires-3
+    first-four-requires-3
     enum-known-step-6
-    numbers-requires-4
+    first-four-requires-4
     enum-known-step-7
-    numbers-requires-5
+    first-four-requires-5
     returns
     returns-2
     returns-3

@@ -17,7 +17,8 @@ use Rattle.base.proofs.Lists.{rest-all}
 use Rattle.kinds.proofs.Table.{sizes-bound}
 use Rattle.kinds.proofs.Sizes.{length-body, length-record}
 use Rattle.base.proofs.Placing.{place-rest}
-use Rattle.writer.proofs.Writing.{length-head, place-head, place-framed, written-room, written-short, placed-room, placed-short}
+use Rattle.places.proofs.Framing.{length-head, place-head, place-framed}
+use Rattle.writer.proofs.Writing.{written-room, written-short, placed-room, placed-short}
 use borrow.Author.Needs.{needs}
 use Rattle.writer.proofs.put_record.Statement.{statement}
 use Rattle.writer.proofs.put_record.Tie as tie

@@ -1,4 +1,4 @@
--- `writer::fields_size` meets its contract: the sum, and the sizes of the fields left, make the sizes of all.
+-- `places::fields_size` meets its contract: the sum, and the sizes of the fields left, make the sizes of all.
 use native.Mathlib.Nat.{add-zero}
 use denote.Ref.{now}
 use mathlib.Core.Path.{_≡_, ap}
@@ -11,8 +11,8 @@ use Rattle.kinds.specs.Kinds.{fieldOf}
 use Rattle.kinds.specs.Record.{sizes}
 use Rattle.base.proofs.Lists.{map-next}
 use Rattle.kinds.proofs.Table.{width-fits}
-use Rattle.writer.proofs.fields_size.Statement.{statement}
-use Rattle.writer.proofs.fields_size.Tie as tie
+use Rattle.places.proofs.fields_size.Statement.{statement}
+use Rattle.places.proofs.fields_size.Tie as tie
 
 abbrev Inv-loop : tie.InvT-loop
 Inv-loop tags sum₀ i₀ sum i = (i ≤ length tags) × (sum ≤ 7 * i) × (sum + sizes (map fieldOf (drop i tags)) ≡ sizes (map fieldOf tags))

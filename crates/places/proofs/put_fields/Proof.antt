@@ -1,4 +1,4 @@
--- `writer::put_fields` meets its contract: a turn of the loop places a field, and those left follow it.
+-- `places::put_fields` meets its contract: a turn of the loop places a field, and those left follow it.
 use borrow.Author.Needs.{needs}
 use mathlib.Core.Path.{_≡_, refl, sym, ap, _∙_}
 use Prim.Native.Nat.{ℕ, _+_, _-_, _≤_, _<_}
@@ -14,8 +14,8 @@ use Rattle.base.specs.Placing.{place}
 use Rattle.base.proofs.Lists.{map-next, rest-all}
 use Rattle.kinds.proofs.Sizes.{length-field}
 use Rattle.base.proofs.Placing.{length-place, place-none, place-more, place-rest}
-use Rattle.writer.proofs.put_fields.Statement.{statement}
-use Rattle.writer.proofs.put_fields.Tie as tie
+use Rattle.places.proofs.put_fields.Statement.{statement}
+use Rattle.places.proofs.put_fields.Tie as tie
 
 -- the fields before i are placed: those from i on, placed from `at` on, make the whole
 record Placed (tags p out₀ out : List ℕ) (at i : ℕ) : Type 0 where

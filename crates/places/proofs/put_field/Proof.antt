@@ -1,4 +1,4 @@
--- `writer::put_field` meets its contract: the tag, the length and the value are placed one after the other.
+-- `places::put_field` meets its contract: the tag, the length and the value are placed one after the other.
 use native.Mathlib.Nat.{add-sub-cancel-left}
 use denote.Ref.{now}
 use Rattle.kinds.specs.declared.Field.{Field}
@@ -12,10 +12,10 @@ use Rattle.layout.specs.Number.{digits}
 use Rattle.kinds.specs.Record.{size, fieldBytes}
 use Rattle.base.specs.Placing.{place}
 use Rattle.layout.proofs.Numbers.{length-digits}
-use Rattle.writer.proofs.Writing.{length-head, place-number, place-head, place-framed}
+use Rattle.places.proofs.Framing.{length-head, place-number, place-head, place-framed}
 use borrow.Author.Needs.{needs}
-use Rattle.writer.proofs.put_field.Statement.{statement}
-use Rattle.writer.proofs.put_field.Tie as tie
+use Rattle.places.proofs.put_field.Statement.{statement}
+use Rattle.places.proofs.put_field.Tie as tie
 
 -- the buffer after the three runs of bytes
 finished : (f : Field) (v : ℕ) (out a b : List ℕ) → size f ≤ length out
