@@ -1,24 +1,20 @@
 -- What a body reads as, kind by kind, from what was seen of its fields.
-use Prim.Native.Nat.{ℕ, _%_, _≤_}
+use Prim.Native.Nat.{ℕ, _≤_}
 use native.Mathlib.Omega.{arith}
 use mathlib.Core.Path.{_≡_, refl, sym, ap, _∙_, subst}
 use mathlib.Core.Logic.{⊎-elim}
-use mathlib.Core.Bool.{Bool, true, false, cond, _&&_}
+use mathlib.Core.Bool.{Bool, cond, _&&_}
 use mathlib.Core.List.{List, [], _∷_}
-use lib.Dec.{eqb, ltb}
-use lib.ListN.{length, getD, take, drop}
-use lib.Seq.{drop-drop}
-use Rattle.base.proofs.Tests.{either, same-or-not, and-l, and-r, and-true}
-use Rattle.layout.specs.Number.{number}
+use lib.ListN.{length, getD, drop}
+use Rattle.base.proofs.Tests.{either, same-or-not}
 use Rattle.refusals.specs.declared.Refusal.the-variants.{Torn}
 use Rattle.kinds.specs.declared.Step.{Step}
-use Rattle.kinds.specs.declared.Step.the-variants.{Load, Store, Send, Deliver, Raise, Lower, Forward}
-use Rattle.kinds.specs.Kinds.{component, block, value, noField, Kind, noKind, kindOf}
+use Rattle.kinds.specs.declared.Step.the-variants.{Raise, Lower, Forward}
+use Rattle.kinds.specs.Kinds.{component, block, noField, Kind, noKind, kindOf}
 use Rattle.kinds.specs.Record.{sizes}
 use Rattle.kinds.proofs.Table.{kind-none}
-use Rattle.kinds.specs.declared.Reading.{Reading}
 use Rattle.kinds.specs.declared.Reading.the-variants.{Step as Read, Refused}
-use Rattle.bodies.specs.Body.{stands, fill, readBody}
+use Rattle.bodies.specs.Body.{fill, readBody}
 use Rattle.bodies.specs.Seen.{Seen}
 use Rattle.bodies.proofs.Bodies.{no-field, torn-body}
 use Rattle.bodies.proofs.Seeing.{puts, kind-reads}

@@ -1,5 +1,4 @@
 -- `places::places_of` meets its contract: each arm has the numbers of its step.
-use mathlib.Core.Path.{_≡_}
 use Rattle.kinds.specs.Kinds.{places}
 use borrow.Author.Needs.{needs}
 use Rattle.places.proofs.places_of.Statement.{statement}

@@ -1,5 +1,4 @@
 -- `told::tells` meets its contract: the kind and its fields make up the sum of the numbers that tell a step.
-use native.Mathlib.Omega.{arith}
 use Rattle.told.proofs.Telling.{few, tells}
 use borrow.Author.Needs.{needs}
 use Rattle.told.proofs.tells.Statement.{statement}

@@ -1,13 +1,12 @@
 -- `writer::write` meets its contract: what is placed into the rest of the buffer is placed from the offset on.
-use mathlib.Core.Path.{_≡_, ap, _∙_}
+use mathlib.Core.Path.{ap, _∙_}
 use Prim.Native.Nat.{ℕ, _-_}
 use native.Mathlib.Omega.{arith}
 use mathlib.Core.List.{List}
 use denote.Ref.{now}
 use lib.ListN.{length}
 use borrow.Rule.Slice.PartMut.{putMid}
-use Rattle.kinds.specs.Kinds.{places, kindIn, kindOf}
-use Rattle.kinds.specs.Record.{bodyBytes, recordBytes, stepBytes}
+use Rattle.kinds.specs.Record.{stepBytes}
 use Rattle.kinds.proofs.Table.{kind-small}
 use Rattle.writer.proofs.Writing.{written-short, placed-short, written-part, placed-part}
 use borrow.Author.Needs.{needs}

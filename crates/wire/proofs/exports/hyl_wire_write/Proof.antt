@@ -1,5 +1,5 @@
 -- `wire::exports::hyl_wire_write` meets its contract: the numbers that tell a step are those of its record, and others are refused.
-use mathlib.Core.Path.{_≡_, refl, sym, ap, _∙_}
+use mathlib.Core.Path.{_≡_, refl, sym}
 use Prim.Native.Nat.{ℕ, _<_}
 use native.Mathlib.Omega.{arith}
 use mathlib.Core.Bool.{Bool, true, false, not, cond}

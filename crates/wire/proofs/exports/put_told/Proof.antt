@@ -1,5 +1,5 @@
 -- `wire::exports::put_told` meets its contract: what is placed into the rest of the buffer is placed from the offset on.
-use mathlib.Core.Path.{_≡_, sym, ap, _∙_}
+use mathlib.Core.Path.{sym, ap, _∙_}
 use Prim.Native.Nat.{ℕ, _-_, _≤_}
 use native.Mathlib.Omega.{arith}
 use mathlib.Core.List.{List}
