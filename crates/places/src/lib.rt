@@ -107,7 +107,7 @@ pub fn total(numbers: &[u32]) -> u64
 }
 
 // Copies the first twelve numbers to the front of `out`.
-pub fn copy_twelve(numbers: &[u32], out: &mut [u32])
+fn copy_twelve(numbers: &[u32], out: &mut [u32])
     requires { ⌜ (12 ≤ length (now numbers)) × (12 ≤ length (now out)) ⌝ }
     ensures { λ _. ⌜ now (out .exit) ≡ place 0 (take 12 (now (numbers .entry))) (now (out .entry)) ⌝ }
 {
@@ -116,6 +116,15 @@ pub fn copy_twelve(numbers: &[u32], out: &mut [u32])
         out[i] = numbers[i];
         i += 1;
     }
+}
+
+// Places the numbers that tell the step at the front of `out`.
+pub fn put_places(step: Step, out: &mut [u32])
+    requires { ⌜ 12 ≤ length (now out) ⌝ }
+    ensures { λ _. ⌜ now (out .exit) ≡ place 0 (places step) (now (out .entry)) ⌝ }
+{
+    let numbers = places_of(step);
+    copy_twelve(&numbers, out);
 }
 
 // Places a field with its value at the front of `out`, and gives its size.

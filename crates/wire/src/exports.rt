@@ -23,8 +23,7 @@ pub extern "C" fn hyl_wire_read(bytes: &[u8], out: &mut [u32]) -> u64
             if out.len() < 12 {
                 return refusals::pack_refused(Refusal::ShortBuffer);
             }
-            let places = places::places_of(step);
-            places::copy_twelve(&places, out);
+            places::put_places(step, out);
             refusals::pack_done(0)
         }
         Reading::Refused(refusal) => refusals::pack_refused(refusal),

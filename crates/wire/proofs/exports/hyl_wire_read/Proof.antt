@@ -3,8 +3,7 @@ use mathlib.Core.Path.{_≡_, refl, sym, _∙_}
 use Prim.Native.Nat.{ℕ, _+_, _≤_, _<_}
 use native.Mathlib.Omega.{arith}
 use mathlib.Core.List.{List}
-use lib.ListN.{length, take}
-use lib.Seq.{take-all}
+use lib.ListN.{length}
 use borrow.Author.Tests.{le-leb, lt-leb}
 use Rattle.refusals.specs.declared.Refusal.{Refusal}
 use Rattle.refusals.specs.declared.Refusal.the-variants.{ShortBuffer}
@@ -34,12 +33,11 @@ module _ (a : Reading) where
         let no-room : length out < 0 + length (places s) = omega (arith, places-length s) in
         rw (← e, lt-leb (0 + length (places s)) (length out) no-room) (p, placed-short (places s) 0 out no-room)
 
-    full : 12 ≤ length out → {n : ℕ} {after : List ℕ} → n ≡ done 0 → after ≡ place 0 (take 12 (places s)) out → (n ≡ readAnswer a out) × (after ≡ readAfter a out)
+    full : 12 ≤ length out → {n : ℕ} {after : List ℕ} → n ≡ done 0 → after ≡ place 0 (places s) out → (n ≡ readAnswer a out) × (after ≡ readAfter a out)
     unfolding readAnswer readAfter
     full h p q =
         let room : 0 + length (places s) ≤ length out = omega (arith, places-length s) in
-        let all : take 12 (places s) ≡ places s = take-all 12 (places s) (omega (arith, places-length s)) in
-        rw (← e, le-leb (0 + length (places s)) (length out) room) (p, (rw all at q) ∙ placed-room (places s) 0 out room)
+        rw (← e, le-leb (0 + length (places s)) (length out) room) (p, q ∙ placed-room (places s) 0 out room)
 
 read-requires : tie.Need-read-requires
 read-requires c κs = search needs
@@ -55,14 +53,8 @@ returns c =
     let step = c .before .before .before in
     short _ (step .step .given .0 .0) _ (sym (step .step .given .1) ∙ step .before .before .read .ensures) (omega arith) (c .pack-refused .ensures)
 
-places-of-requires : tie.Need-places-of-requires
-places-of-requires c κs = search needs
-
-slice-aggregate-copy-twelve : tie.Need-slice-aggregate-copy-twelve
-slice-aggregate-copy-twelve c = search needs
-
-copy-twelve-requires : tie.Need-copy-twelve-requires
-copy-twelve-requires c κs = search needs
+put-places-requires : tie.Need-put-places-requires
+put-places-requires c κs = search needs
 
 pack-done-requires : tie.Need-pack-done-requires
 pack-done-requires c κs = search needs
@@ -78,9 +70,8 @@ same-length c = search needs
 
 returns-2 : tie.Need-returns-2
 returns-2 c =
-    let tested = c .before .before .before .before .before .before .before in
-    let step = tested .before .before in
-    full _ (step .step .given .0 .0) _ (sym (step .step .given .1) ∙ step .before .before .read .ensures) (omega arith) (c .pack-done .ensures) (rw (c .before .before .before .before .before .before .places-of .ensures) at (c .before .before .before .copy-twelve .ensures))
+    let step = c .before .before .before .before .before .before .before in
+    full _ (step .step .given .0 .0) _ (sym (step .step .given .1) ∙ step .before .before .read .ensures) (omega arith) (c .pack-done .ensures) (c .before .before .before .put-places .ensures)
 
 returns-3 : tie.Need-returns-3
 returns-3 c =
@@ -95,9 +86,7 @@ hyl-wire-read-spec =
     enum-known-step
     pack-refused-requires
     returns
-    places-of-requires
-    slice-aggregate-copy-twelve
-    copy-twelve-requires
+    put-places-requires
     pack-done-requires
     enum-known-refusal
     pack-refused-requires-2
