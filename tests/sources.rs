@@ -53,6 +53,11 @@ fn sources(directory: &Path) -> BTreeMap<PathBuf, String> {
     of_rattle.map(|path| (path.clone(), text(&path))).collect()
 }
 
+/// The must-fail edits of a crate: those that the gate tries, and those of `tests/edits.sh`.
+fn edit_files(name: &str) -> Vec<PathBuf> {
+    [Path::new("crates").join(name).join("must-fail"), Path::new("tests/edits").join(name)].into_iter().flat_map(files).collect()
+}
+
 fn text(path: &Path) -> String {
     fs::read_to_string(path).unwrap_or_else(|error| panic!("{}: {error}", path.display()))
 }
@@ -106,7 +111,7 @@ fn edits(crates: &Crates, bad: &mut Vec<String>) -> String {
     let mut count = 0;
     for name in crates.0.keys() {
         let root = Path::new("crates").join(name);
-        for path in files(root.join("must-fail")) {
+        for path in edit_files(name) {
             count += 1;
             let edit = text(&path);
             let mut say = |what: String| bad.push(format!("{}: {what}", path.display()));
@@ -169,12 +174,12 @@ fn documents(crates: &Crates, bad: &mut Vec<String>) -> String {
                 }
                 // a unit such as steps/s is no edit
                 [name, edit] if crates.has(name) && edit.len() > 1 && !["specs", "proofs", "src"].contains(&edit) => {
-                    need(Path::new("crates").join(name).join("must-fail").join(edit).with_extension("edit").is_file(), word);
+                    need(edit_files(name).iter().any(|path| path.file_stem().is_some_and(|stem| stem == edit)), word);
                 }
                 // "name: 4 edits"
                 [name] if crates.has(name) && name_of(&path) == "PROOFS.md" => {
                     if let Ok(number) = next.parse::<usize>() {
-                        need(files(Path::new("crates").join(name).join("must-fail")).len() == number, &format!("{number} edits of {name}"));
+                        need(edit_files(name).len() == number, &format!("{number} edits of {name}"));
                     }
                 }
                 _ => {}
