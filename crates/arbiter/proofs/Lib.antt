@@ -1,4 +1,4 @@
-pub mod Boards
 pub mod Words
-pub mod Claims
-pub mod Bypass
+pub mod ClaimBytes
+pub mod Stored
+pub mod Deciding

@@ -11,10 +11,10 @@ use lib.Dec.{eqb}
 use lib.Bits.{bitAnd, bitOr, and-shr, and-step, and-high, and-lt, or-add-and}
 use lib.Count.{ones, ones-cat, trailingZeros, under}
 use lib.Pow.{pow-pos, pow-add, shl-exact, shr-shr, mod-pow-add}
-use Rattle.base.specs.Folds.{one, countBelow}
-use Rattle.base.proofs.Tests.{either, differs}
-use Rattle.arbiter.specs.Boards.{places, bit, member, insert, remove, subset, boardsOnly, firstFrom, lowest, size}
-use Rattle.arbiter.proofs.Boards.{bit-lt, bit-member, bit-in, bit-out, bit-zero, bit-le, in-of-bit, out-of-bit, insert-in, insert-out, remove-in, remove-out, bits-ext, subset-at, subset-of, boards-no-home, boards-top, boards-from}
+use Rattle.spec_base.specs.Folds.{one, countBelow}
+use Rattle.spec_base.proofs.Tests.{either, differs}
+use Rattle.spec_rack.specs.Boards.{places, bit, member, insert, remove, subset, boardsOnly, firstFrom, lowest, size}
+use Rattle.spec_rack.proofs.Boards.{bit-lt, bit-member, bit-in, bit-out, bit-zero, bit-le, in-of-bit, out-of-bit, insert-in, insert-out, remove-in, remove-out, bits-ext, subset-at, subset-of, boards-no-home, boards-top, boards-from}
 
 -- `1 << i`
 pub shl-one : (i : ℕ) → i < places → (1 * 2 ^ i) % 2 ^ places ≡ 2 ^ i

@@ -1,7 +1,7 @@
 // Sets of boards as bits of a u16: board i is in the set where bit i is 1.
 ghost use mathlib.Core.Path.{_≡_};
 ghost use Prim.Native.Nat.{_<_};
-ghost use Rattle.arbiter.specs.Boards.{member, insert, remove, subset, boardsOnly, lowest, size};
+ghost use Rattle.spec_rack.specs.Boards.{member, insert, remove, subset, boardsOnly, lowest, size};
 
 pub fn member(s: u16, i: u8) -> bool
     requires { ⌜ i < 16 ⌝ }

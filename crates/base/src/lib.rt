@@ -1,10 +1,13 @@
 // Tests as functions, so that code that combines them has no branch. What the specifications share is in specs/.
+pub mod numbers;
+pub mod results;
+
 ghost use mathlib.Core.Path.{_≡_};
 ghost use mathlib.Core.Bool.{_&&_, _||_};
 ghost use Prim.Native.Nat.{_+_, _≤_, _<_};
 ghost use lib.Dec.{eqb};
 ghost use lib.ListN.{length, getD};
-ghost use Rattle.base.specs.Folds.{below, implies};
+ghost use Rattle.spec_base.specs.Folds.{below, implies};
 
 pub fn both(a: bool, b: bool) -> bool
     ensures { λ r. ⌜ r ≡ (a && b) ⌝ }

@@ -1,1 +1,4 @@
-pub mod Coherence
+pub mod LetterLaws
+pub mod Whole
+pub mod RunLaws
+pub mod Lengths

@@ -1,17 +1,21 @@
 // The engine for C and Rust: slices are a pointer and then a length, results one number (the crate packing says which).
+pub mod letter;
+pub mod results;
+pub mod run;
+
 ghost use mathlib.Core.Path.{_≡_};
-ghost use Rattle.opening.specs.Opening.{openTold, openAfter};
-ghost use Rattle.letters.specs.Letter.{letterTold};
-ghost use Rattle.judging.specs.Step.{stepTold, stepAfter};
-ghost use Rattle.packing.specs.Packing.{packedReply, packedLetter, packedLength};
-ghost use Rattle.running.specs.Run.{Ran};
+ghost use Rattle.spec_rack.specs.Opening.{openTold, openAfter};
+ghost use Rattle.spec_rack.specs.RecordLetter.{letterTold};
+ghost use Rattle.spec_rack.specs.RecordStep.{stepTold, stepAfter};
+ghost use Rattle.spec_rack.specs.ReplyWord.{packedReply, packedLetter, packedLength};
+ghost use Rattle.spec_rack.specs.Run.{Ran};
 
 // How many bytes the record of a rack of that many blocks takes.
 #[no_mangle]
 pub extern "C" fn hyl_record_len(blocks: u32) -> u64
     ensures { λ r. ⌜ r ≡ packedLength blocks ⌝ }
 {
-    packing::record_length(blocks)
+    results::record_length(blocks)
 }
 
 // Opens a record at the front of a buffer.
@@ -20,7 +24,7 @@ pub extern "C" fn hyl_open(rec: &mut [u8], boards: u32, blocks: u32, tokens: u32
     ensures reply { λ r. ⌜ r ≡ packedReply (openTold boards blocks tokens (now (rec .entry))) ⌝ }
     ensures buffer { λ r. ⌜ now (rec .exit) ≡ openAfter boards blocks tokens (now (rec .entry)) ⌝ }
 {
-    packing::reply(opening::open(rec, boards, blocks, tokens))
+    results::reply(record_open::open(rec, boards, blocks, tokens))
 }
 
 // Gives the bytes of a step to the record.
@@ -29,7 +33,7 @@ pub extern "C" fn hyl_step(rec: &mut [u8], step: &[u8]) -> u64
     ensures reply { λ r. ⌜ r ≡ packedReply (stepTold (now (rec .entry)) (now (step .entry))) ⌝ }
     ensures buffer { λ r. ⌜ now (rec .exit) ≡ stepAfter (now (rec .entry)) (now (step .entry)) ⌝ }
 {
-    packing::reply(judging::step(rec, step))
+    results::reply(engine_step::step(rec, step))
 }
 
 // Gives the records of a list from a place on; `at` goes to where the next run starts.
@@ -37,7 +41,7 @@ pub extern "C" fn hyl_step(rec: &mut [u8], step: &[u8]) -> u64
 pub extern "C" fn hyl_run(rec: &mut [u8], list: &[u8], at: &mut usize, replies: &mut [u64]) -> usize
     ensures { λ r. ⌜ Ran (now (rec .entry)) (now (list .entry)) (now (at .entry)) (now (replies .entry)) r (now (rec .exit)) (now (at .exit)) (now (replies .exit)) ⌝ }
 {
-    running::run(rec, list, at, replies)
+    run::run(rec, list, at, replies)
 }
 
 // The state letter of a board and a block.
@@ -45,5 +49,5 @@ pub extern "C" fn hyl_run(rec: &mut [u8], list: &[u8], at: &mut usize, replies: 
 pub extern "C" fn hyl_letter(rec: &[u8], component: u32, block: u32) -> u64
     ensures { λ r. ⌜ r ≡ packedLetter (letterTold (now (rec .entry)) component block) ⌝ }
 {
-    packing::lettered(letters::letter(rec, component, block))
+    results::lettered(letter::letter(rec, component, block))
 }

@@ -7,6 +7,6 @@ fn main() {
     let mut rec = [0u8; 21380];
     let mut out = [0u8; 349536];
     let count = io::read_full(STDIN_FILENO, &mut input);
-    let length = report::report(&input[..count], &mut rec, &mut out);
+    let length = rackrun_text::report(&input[..count], &mut rec, &mut out);
     io::write_all(STDOUT_FILENO, &out[..length]);
 }

@@ -8,16 +8,16 @@ use mathlib.Core.List.{List}
 use lib.ListN.{length, getD, drop}
 use lib.Seq.{getD-take, getD-drop}
 use lib.Dec.{eqb, ltb}
-use Rattle.base.specs.Folds.{below, every}
-use Rattle.base.proofs.Tests.{and-true}
-use Rattle.base.proofs.Folds.{below-of, below-same}
-use Rattle.layout.specs.Layout.{part, byte, flag, big, pair, items}
-use Rattle.layout.proofs.Laws.{length-readItems}
-use Rattle.layout.proofs.Places.{read-byte, read-pair, formed-below}
-use Rattle.claims.specs.ClaimBytes.{claims}
-use Rattle.record.specs.Record.{tokens, words, load, toCell, cell, toMessage, message, block, figures, layoutOf}
-use Rattle.record.proofs.Parts.{ends, cell-size, message-size, block-size}
-use Rattle.layout.proofs.Forms.{formed-pair, formed-items, numbers-zero}
+use Rattle.spec_base.specs.Folds.{below, every}
+use Rattle.spec_base.proofs.Tests.{and-true}
+use Rattle.spec_base.proofs.Folds.{below-of, below-same}
+use Rattle.spec_base.specs.Layout.{part, byte, flag, big, pair, items}
+use Rattle.spec_base.proofs.Laws.{length-readItems}
+use Rattle.spec_base.proofs.Places.{read-byte, read-pair, formed-below}
+use Rattle.spec_rack.specs.ClaimBytes.{claims}
+use Rattle.spec_rack.specs.RecordLayout.{tokens, words, load, toCell, cell, toMessage, message, block, figures, layoutOf}
+use Rattle.spec_rack.proofs.RecordParts.{ends, cell-size, message-size, block-size}
+use Rattle.spec_base.proofs.Forms.{formed-pair, formed-items, numbers-zero}
 
 -- ---- words
 

@@ -4,21 +4,21 @@ use native.Mathlib.Omega.{arith}
 use mathlib.Core.Path.{_≡_, sym, ap, _∙_, subst}
 use mathlib.Core.List.{List}
 use lib.ListN.{length, length-set}
-use Rattle.base.specs.Folds.{All}
-use Rattle.base.proofs.Folds.{all-at, all-set}
-use Rattle.layout.specs.Number.{Bytes}
-use Rattle.protocol.specs.declared.Message.{Message}
-use Rattle.protocol.specs.Rack.{Cell, Rack, noCell, noBlock, noMessage, blockAt, cellAt, messageAt}
-use Rattle.protocol.specs.Sound.{sound}
-use Rattle.protocol.proofs.Sound.{Sound}
-use Rattle.record.specs.Record.{recordLength, get, put}
-use Rattle.record.specs.Needs.{Whole, InCell}
+use Rattle.spec_base.specs.Folds.{All}
+use Rattle.spec_base.proofs.Folds.{all-at, all-set}
+use Rattle.spec_base.specs.Number.{Bytes}
+use Rattle.spec_rack.specs.declared.Message.{Message}
+use Rattle.spec_rack.specs.Rack.{Cell, Rack, noCell, noBlock, noMessage, blockAt, cellAt, messageAt}
+use Rattle.spec_rack.specs.Sound.{sound}
+use Rattle.spec_rack.proofs.Sound.{Sound}
+use Rattle.spec_rack.specs.RecordLayout.{recordLength, get, put}
+use Rattle.spec_rack.specs.Needs.{Whole, InCell}
 use Rattle.record.specs.Changes.{withMesh, onCell}
-use Rattle.record.proofs.Parts.{CellFits, MessageFits, BlockFits}
-use Rattle.record.proofs.Record.{Formed, Fits, well-formed, boards-is, blocks-is, get-put, put-formed, put-put}
+use Rattle.spec_rack.proofs.RecordParts.{CellFits, MessageFits, BlockFits}
+use Rattle.spec_rack.proofs.RecordLaws.{Formed, Fits, well-formed, boards-is, blocks-is, get-put, put-formed, put-put}
 use Rattle.record.proofs.Leaves.{formed}
-use Rattle.record.proofs.Holdable.{holdable}
-use Rattle.record.proofs.Live.{words-fit}
+use Rattle.spec_rack.proofs.Holdable.{holdable}
+use Rattle.spec_rack.proofs.Live.{words-fit}
 
 -- ---- a sound record
 

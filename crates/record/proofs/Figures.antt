@@ -6,21 +6,21 @@ use mathlib.Core.Path.{_≡_, refl, sym, ap, _∙_, subst}
 use mathlib.Core.List.{List, [], _∷_, _++_}
 use lib.ListN.{length, getD, set, take, drop, length-append}
 use lib.Seq.{length-take-le}
-use Rattle.base.specs.Folds.{removed}
-use Rattle.layout.specs.Layout.{Layout, part, over, pair, items, readItems, writeItems}
-use Rattle.layout.proofs.Parts.{bytes-take, over-over, length-part, part-part}
-use Rattle.layout.proofs.Laws.{Stands, StandItems, stand-items, items-unchanged}
-use Rattle.layout.proofs.Places.{Place, item}
-use Rattle.layout.proofs.Copies.{items-more, items-removed}
-use Rattle.arbiter.specs.Claims.{Claims}
-use Rattle.claims.specs.ClaimBytes.{claims}
-use Rattle.protocol.specs.declared.Message.{Message}
-use Rattle.protocol.specs.Rack.{Cell, Block, noMessage, cellAt, claimsAt, messageAt}
-use Rattle.protocol.specs.Rules.{withCell, withClaims}
-use Rattle.record.specs.Record.{cell, message, block, figures, layoutOf, get, put}
+use Rattle.spec_base.specs.Folds.{removed}
+use Rattle.spec_base.specs.Layout.{Layout, part, over, pair, items, readItems, writeItems}
+use Rattle.spec_base.proofs.Parts.{bytes-take, over-over, length-part, part-part}
+use Rattle.spec_base.proofs.Laws.{Stands, StandItems, stand-items, items-unchanged}
+use Rattle.spec_base.proofs.Places.{Place, item}
+use Rattle.spec_base.proofs.Copies.{items-more, items-removed}
+use Rattle.spec_rack.specs.Claims.{Claims}
+use Rattle.spec_rack.specs.ClaimBytes.{claims}
+use Rattle.spec_rack.specs.declared.Message.{Message}
+use Rattle.spec_rack.specs.Rack.{Cell, Block, noMessage, cellAt, claimsAt, messageAt}
+use Rattle.spec_rack.specs.Rules.{withCell, withClaims}
+use Rattle.spec_rack.specs.RecordLayout.{cell, message, block, figures, layoutOf, get, put}
 use Rattle.record.specs.Changes.{withMesh}
-use Rattle.record.proofs.Parts.{cell-size, message-size, message-lawful, message-full}
-use Rattle.record.proofs.Record.{header, header-lawful, mesh-place, cell-place, claims-place, Formed, boards-is, blocks-is, tokens-is, mesh-is, stands, read-figure, write-figure, stands-figure}
+use Rattle.spec_rack.proofs.RecordParts.{cell-size, message-size, message-lawful, message-full}
+use Rattle.spec_rack.proofs.RecordLaws.{header, header-lawful, mesh-place, cell-place, claims-place, Formed, boards-is, blocks-is, tokens-is, mesh-is, stands, read-figure, write-figure, stands-figure}
 
 module _ (s : List ℕ) (ok : Formed s) where
   -- ---- a cell

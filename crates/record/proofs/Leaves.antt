@@ -9,21 +9,21 @@ use mathlib.Core.List.{List, _++_, append-assoc}
 use lib.Dec.{eqb}
 use lib.ListN.{length, getD, set, take, drop, length-drop}
 use lib.Seq.{paste, paste-zero, paste-suc, length-paste-head, getD-append-add, getD-drop, take-suc, take-all, length-take-le, ext-getD}
-use Rattle.layout.specs.Number.{Bytes}
-use Rattle.layout.specs.Layout.{Layout, part, over, big, readItems, writeItems}
-use Rattle.layout.proofs.Parts.{length-part, part-part}
-use Rattle.layout.proofs.Laws.{big-lawful, items-keeps, length-readItems}
-use Rattle.layout.proofs.Places.{Place, within, first, second, iso-place, item, over-in, item-looks}
-use Rattle.layout.proofs.Copies.{items-more}
-use Rattle.protocol.specs.Rack.{Cell, noCell, cellAt}
-use Rattle.protocol.specs.Rules.{stored}
+use Rattle.spec_base.specs.Number.{Bytes}
+use Rattle.spec_base.specs.Layout.{Layout, part, over, big, readItems, writeItems}
+use Rattle.spec_base.proofs.Parts.{length-part, part-part}
+use Rattle.spec_base.proofs.Laws.{big-lawful, items-keeps, length-readItems}
+use Rattle.spec_base.proofs.Places.{Place, within, first, second, iso-place, item, over-in, item-looks}
+use Rattle.spec_base.proofs.Copies.{items-more}
+use Rattle.spec_rack.specs.Rack.{Cell, noCell, cellAt}
+use Rattle.spec_rack.specs.Rules.{stored}
 use Rattle.record.specs.declared.Marks.{Marks}
-use Rattle.record.specs.Record.{tokens, words, load, toCell, fromCell, cell, block, get, put}
-use Rattle.record.specs.Needs.{Whole, InCell}
+use Rattle.spec_rack.specs.RecordLayout.{tokens, words, load, toCell, fromCell, cell, block, get, put}
+use Rattle.spec_rack.specs.Needs.{Whole, InCell}
 use Rattle.record.specs.Changes.{MarksOf, marked, filled, onCell}
-use Rattle.record.proofs.Parts.{tokens-lawful, words-lawful, words-size}
+use Rattle.spec_rack.proofs.RecordParts.{tokens-lawful, words-lawful, words-size}
 use Rattle.record.proofs.Writing.{tokens-read, cell-write}
-use Rattle.record.proofs.Record.{Formed, formed-of, cell-place, read-figure, write-figure}
+use Rattle.spec_rack.proofs.RecordLaws.{Formed, formed-of, cell-place, read-figure, write-figure}
 use Rattle.record.proofs.Figures.{cell-put}
 
 pub formed : (s : List ℕ) → Bytes s → Whole s → Formed s

@@ -1,9 +1,6 @@
-pub mod Parts
-pub mod Record
-pub mod Figures
 pub mod Bytes
-pub mod Writing
-pub mod Leaves
-pub mod Holdable
-pub mod Live
 pub mod Calls
+pub mod Figures
+pub mod Leaves
+pub mod Writing
+pub mod Moves

@@ -9,14 +9,14 @@ use mathlib.Core.List.{List, [], _∷_}
 use lib.Dec.{eqb}
 use lib.ListN.{length, getD, set, take, drop, length-set, take-append-drop}
 use lib.Seq.{take-take}
-use Rattle.base.specs.Folds.{one}
-use Rattle.layout.specs.Number.{number}
-use Rattle.layout.specs.Layout.{part, over, cover, byte, flag, big, pair}
-use Rattle.layout.proofs.Laws.{byte-lawful, flag-lawful}
-use Rattle.layout.proofs.Places.{read-byte, write-byte, read-pair, write-pair}
-use Rattle.protocol.specs.declared.Message.{Message}
-use Rattle.record.specs.Record.{tokens, words, load, toCell, cell, fromMessage, message}
-use Rattle.record.proofs.Parts.{ends, ends-lawful, tokens-lawful, load-size, words-size}
+use Rattle.spec_base.specs.Folds.{one}
+use Rattle.spec_base.specs.Number.{number}
+use Rattle.spec_base.specs.Layout.{part, over, cover, byte, flag, big, pair}
+use Rattle.spec_base.proofs.Laws.{byte-lawful, flag-lawful}
+use Rattle.spec_base.proofs.Places.{read-byte, write-byte, read-pair, write-pair}
+use Rattle.spec_rack.specs.declared.Message.{Message}
+use Rattle.spec_rack.specs.RecordLayout.{tokens, words, load, toCell, cell, fromMessage, message}
+use Rattle.spec_rack.proofs.RecordParts.{ends, ends-lawful, tokens-lawful, load-size, words-size}
 
 -- ---- read
 

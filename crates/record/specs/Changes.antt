@@ -2,9 +2,9 @@
 use Prim.Native.Nat.{ℕ}
 use mathlib.Core.Path.{_≡_}
 use mathlib.Core.List.{List}
-use Rattle.protocol.specs.declared.Message.{Message}
-use Rattle.protocol.specs.Rack.{Cell, Rack}
-use Rattle.protocol.specs.Rules.{withCell}
+use Rattle.spec_rack.specs.declared.Message.{Message}
+use Rattle.spec_rack.specs.Rack.{Cell, Rack}
+use Rattle.spec_rack.specs.Rules.{withCell}
 use Rattle.record.specs.declared.Marks.{Marks}
 
 -- a cell's plain count, owner's mark and valid mark, as the code has them

@@ -1,4 +1,1 @@
-pub mod Record
-pub mod Sound
-pub mod Needs
 pub mod Changes

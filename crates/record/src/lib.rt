@@ -1,4 +1,7 @@
 // The rack's record: its figures, read and written at their places. specs/Record.antt has the layout.
+pub mod cells;
+pub mod mesh;
+
 ghost use mathlib.Core.Path.{_≡_};
 ghost use Prim.Native.Nat.{_+_, _<_};
 ghost use lib.ListN.{length, getD};

@@ -2,8 +2,8 @@
 ghost use mathlib.Core.Path.{_≡_};
 ghost use Prim.Native.Nat.{_+_, _≤_};
 ghost use lib.ListN.{length};
-ghost use Rattle.layout.specs.Layout.{over};
-ghost use Rattle.record.specs.Record.{tokens};
+ghost use Rattle.spec_base.specs.Layout.{over};
+ghost use Rattle.spec_rack.specs.RecordLayout.{tokens};
 use super::Marks;
 
 // Writes the marks at a place.

@@ -2,15 +2,15 @@
 ghost use mathlib.Core.Path.{_≡_};
 ghost use Prim.Native.Nat.{_+_, _*_, _≤_, _<_};
 ghost use lib.ListN.{length};
-ghost use Rattle.layout.specs.Layout.{big, part, over};
-ghost use Rattle.record.specs.Record.{words};
+ghost use Rattle.spec_base.specs.Layout.{big, part, over};
+ghost use Rattle.spec_rack.specs.RecordLayout.{words};
 
 // The word at a place.
 pub fn word_at(s: &[u8], at: usize) -> u32
     requires { ⌜ at + 4 ≤ length (now s) ⌝ }
     ensures { λ r. ⌜ r ≡ big 4 .read (part at 4 (now (s .entry))) ⌝ }
 {
-    numbers::number_at(s, at)
+    base::numbers::number_at(s, at)
 }
 
 // Writes the word at a place.

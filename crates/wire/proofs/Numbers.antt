@@ -8,21 +8,21 @@ use lib.ListN.{length, getD, take}
 use lib.Seq.{take-all, length-take-le, ext-getD, getD-take}
 use lib.Dec.{eqb, leb}
 use borrow.Author.Tests.{le-leb, leb-true, eq-eqb, eqb-true}
-use Rattle.base.specs.Folds.{All}
-use Rattle.base.proofs.Tests.{and-l, and-r, one-eqb}
-use Rattle.base.proofs.Folds.{below-at, below-of}
-use Rattle.refusals.specs.declared.Refusal.the-variants.{Torn}
-use Rattle.kinds.specs.declared.Field.{Field}
-use Rattle.kinds.specs.declared.Step.{Step}
-use Rattle.kinds.specs.declared.Step.the-variants.{Load, Store, Send, Deliver, Raise, Lower, Forward}
-use Rattle.kinds.specs.declared.Reading.the-variants.{Step as Read, Refused}
-use Rattle.kinds.specs.Kinds.{kindOf, places, kindIn, fit, fits}
-use Rattle.kinds.specs.Record.{bodyBytes, recordBytes, stepBytes}
-use Rattle.reader.specs.Reader.{readRecord}
-use Rattle.told.specs.Told.{same, toldBy, told}
-use Rattle.kinds.proofs.Table.{kind-small, places-length}
-use Rattle.told.proofs.Telling.{tags-small, get-first}
-use Rattle.reader.proofs.Theorems.{refused-read, read-written, read-fits}
+use Rattle.spec_base.specs.Folds.{All}
+use Rattle.spec_base.proofs.Tests.{and-l, and-r, one-eqb}
+use Rattle.spec_base.proofs.Folds.{below-at, below-of}
+use Rattle.spec_wire.specs.declared.Refusal.the-variants.{Torn}
+use Rattle.spec_wire.specs.declared.Field.{Field}
+use Rattle.spec_wire.specs.declared.Step.{Step}
+use Rattle.spec_wire.specs.declared.Step.the-variants.{Load, Store, Send, Deliver, Raise, Lower, Forward}
+use Rattle.spec_wire.specs.declared.Reading.the-variants.{Step as Read, Refused}
+use Rattle.spec_wire.specs.Kinds.{kindOf, places, kindIn, fit, fits}
+use Rattle.spec_wire.specs.StepRecord.{bodyBytes, recordBytes, stepBytes}
+use Rattle.spec_wire.specs.Reader.{readRecord}
+use Rattle.spec_wire.specs.FieldArray.{same, toldBy, told}
+use Rattle.spec_wire.proofs.Table.{kind-small, places-length}
+use Rattle.wire_writer.proofs.Telling.{tags-small, get-first}
+use Rattle.spec_wire.proofs.Theorems.{refused-read, read-written, read-fits}
 
 step-places : (s : Step) → kindOf (kindIn (places s)) .step (places s) ≡ s
 unfolding places kindOf

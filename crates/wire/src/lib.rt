@@ -1,10 +1,10 @@
 // Step records, written and read again, and read and written again; exports.rt has the reader and the writer for C.
 ghost use mathlib.Core.Path.{_≡_};
-ghost use Rattle.kinds.specs.declared.Reading.{Reading};
-ghost use Rattle.wire.specs.Trips.{rewritten, replaced};
-use kinds::Reading;
-use kinds::Step;
-use writer::Written;
+ghost use Rattle.spec_wire.specs.declared.Reading.{Reading};
+ghost use Rattle.spec_wire.specs.RoundTrip.{rewritten, replaced};
+use spec_wire::Reading;
+use spec_wire::Step;
+use spec_wire::Written;
 
 pub mod exports;
 
@@ -13,8 +13,8 @@ pub fn written_and_read(step: Step) -> Reading
     ensures { λ r. ⌜ r ≡ Reading.Step step ⌝ }
 {
     let mut out = [0u8; 27];
-    match writer::write(step, &mut out, 0) {
-        Written::Count(n) => reader::read(&out[..n]),
+    match wire_writer::write(step, &mut out, 0) {
+        Written::Count(n) => wire_reader::read(&out[..n]),
         Written::Refused(refusal) => Reading::Refused(refusal),
     }
 }
@@ -24,8 +24,8 @@ pub fn read_and_written(bytes: &[u8], out: &mut [u8]) -> Written
     ensures answer { λ r. ⌜ r ≡ rewritten (now (bytes .entry)) (now (out .entry)) ⌝ }
     ensures buffer { λ r. ⌜ now (out .exit) ≡ replaced (now (bytes .entry)) (now (out .entry)) ⌝ }
 {
-    match reader::read(bytes) {
-        Reading::Step(step) => writer::write(step, out, 0),
+    match wire_reader::read(bytes) {
+        Reading::Step(step) => wire_writer::write(step, out, 0),
         Reading::Refused(refusal) => Written::Refused(refusal),
     }
 }

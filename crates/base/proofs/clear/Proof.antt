@@ -6,8 +6,8 @@ use mathlib.Core.Path.{_≡_, sym, ap, _∙_}
 use mathlib.Core.Bool.{Bool, _&&_}
 use lib.ListN.{getD}
 use lib.Dec.{eqb}
-use Rattle.base.specs.Folds.{below}
-use Rattle.base.proofs.Folds.{below-none, below-next}
+use Rattle.spec_base.specs.Folds.{below}
+use Rattle.spec_base.proofs.Folds.{below-none, below-next}
 use Rattle.base.proofs.clear.Statement.{statement}
 use Rattle.base.proofs.clear.Tie as tie
 

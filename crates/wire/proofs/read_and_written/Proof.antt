@@ -3,17 +3,17 @@ use mathlib.Core.Path.{_≡_, refl, sym, _∙_}
 use mathlib.Core.List.{List}
 use Prim.Native.Nat.{ℕ}
 use denote.Ref.{now}
-use Rattle.layout.specs.Number.{Bytes}
-use Rattle.refusals.specs.declared.Refusal.{Refusal}
-use Rattle.kinds.specs.declared.Step.{Step}
-use Rattle.kinds.specs.declared.Reading.the-variants.{Step as Read, Refused}
-use Rattle.writer.specs.declared.Written.{Written}
-use Rattle.writer.specs.declared.Written.the-variants.{Refused as NotWritten}
-use Rattle.kinds.specs.Record.{stepBytes}
-use Rattle.reader.specs.Reader.{readRecord}
-use Rattle.wire.specs.Trips.{rewritten, replaced}
-use Rattle.writer.specs.Writer.{written, placed}
-use Rattle.reader.proofs.Theorems.{written-read}
+use Rattle.spec_base.specs.Number.{Bytes}
+use Rattle.spec_wire.specs.declared.Refusal.{Refusal}
+use Rattle.spec_wire.specs.declared.Step.{Step}
+use Rattle.spec_wire.specs.declared.Reading.the-variants.{Step as Read, Refused}
+use Rattle.spec_wire.specs.declared.Written.{Written}
+use Rattle.spec_wire.specs.declared.Written.the-variants.{Refused as NotWritten}
+use Rattle.spec_wire.specs.StepRecord.{stepBytes}
+use Rattle.spec_wire.specs.Reader.{readRecord}
+use Rattle.spec_wire.specs.RoundTrip.{rewritten, replaced}
+use Rattle.spec_wire.specs.Writer.{written, placed}
+use Rattle.spec_wire.proofs.Theorems.{written-read}
 use borrow.Author.Needs.{needs}
 use Rattle.wire.proofs.read_and_written.Statement.{statement}
 use Rattle.wire.proofs.read_and_written.Tie as tie

@@ -5,19 +5,19 @@ use native.Mathlib.Omega.{arith}
 use mathlib.Core.List.{List}
 use lib.ListN.{length, take, drop}
 use lib.Seq.{length-take-le, take-at}
-use Rattle.refusals.specs.declared.Refusal.{Refusal}
-use Rattle.kinds.specs.declared.Step.{Step}
-use Rattle.writer.specs.declared.Written.the-variants.{Count, Refused}
-use Rattle.kinds.specs.Record.{stepBytes}
-use Rattle.reader.specs.Reader.{readRecord}
-use Rattle.base.specs.Placing.{place}
-use Rattle.writer.specs.Writer.{written, placed}
-use Rattle.base.proofs.Placing.{length-place}
-use Rattle.writer.proofs.Writing.{written-room, placed-room}
-use Rattle.kinds.proofs.Machine.{step-fits}
-use Rattle.writer.proofs.Writing.{refused-count, written-count}
-use Rattle.kinds.proofs.Sizes.{record-length}
-use Rattle.reader.proofs.Theorems.{read-written}
+use Rattle.spec_wire.specs.declared.Refusal.{Refusal}
+use Rattle.spec_wire.specs.declared.Step.{Step}
+use Rattle.spec_wire.specs.declared.Written.the-variants.{Count, Refused}
+use Rattle.spec_wire.specs.StepRecord.{stepBytes}
+use Rattle.spec_wire.specs.Reader.{readRecord}
+use Rattle.spec_base.specs.Placing.{place}
+use Rattle.spec_wire.specs.Writer.{written, placed}
+use Rattle.spec_base.proofs.Placing.{length-place}
+use Rattle.wire_writer.proofs.Writing.{written-room, placed-room}
+use Rattle.spec_wire.proofs.Machine.{step-fits}
+use Rattle.wire_writer.proofs.Writing.{refused-count, written-count}
+use Rattle.spec_wire.proofs.Sizes.{record-length}
+use Rattle.spec_wire.proofs.Theorems.{read-written}
 use borrow.Author.Needs.{needs}
 use Rattle.wire.proofs.written_and_read.Statement.{statement}
 use Rattle.wire.proofs.written_and_read.Tie as tie

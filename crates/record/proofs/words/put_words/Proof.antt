@@ -1,7 +1,7 @@
 -- `record::words::put_words` meets its contract. The invariant: the first i words are written.
 use borrow.Author.Needs.{needs}
-use Rattle.layout.proofs.Laws.{cut}
-use Rattle.layout.specs.Layout.{over, big, writeItems}
+use Rattle.spec_base.proofs.Laws.{cut}
+use Rattle.spec_base.specs.Layout.{over, big, writeItems}
 use Rattle.record.proofs.Leaves.{lined-more, lined-all}
 use mathlib.Core.Path.{_≡_, refl, sym, ap, _∙_}
 use lib.ListN.{length, getD, take}

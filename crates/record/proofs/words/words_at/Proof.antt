@@ -1,8 +1,8 @@
 -- `record::words::words_at` meets its contract. The invariant: the first i words are read.
-use Rattle.base.proofs.Folds.{at-set}
+use Rattle.spec_base.proofs.Folds.{at-set}
 use lib.ListN.{length-set}
 use borrow.Author.Needs.{needs}
-use Rattle.layout.specs.Layout.{big, part}
+use Rattle.spec_base.specs.Layout.{big, part}
 use Rattle.record.proofs.Leaves.{words-read}
 use mathlib.Core.Path.{_≡_, sym, ap, _∙_}
 use lib.ListN.{length, getD}

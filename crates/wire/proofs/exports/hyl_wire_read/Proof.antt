@@ -5,17 +5,17 @@ use native.Mathlib.Omega.{arith}
 use mathlib.Core.List.{List}
 use lib.ListN.{length}
 use borrow.Author.Tests.{le-leb, lt-leb}
-use Rattle.refusals.specs.declared.Refusal.{Refusal}
-use Rattle.refusals.specs.declared.Refusal.the-variants.{ShortBuffer}
-use Rattle.refusals.specs.Packing.{done, refused}
-use Rattle.kinds.specs.declared.Step.{Step}
-use Rattle.kinds.specs.declared.Reading.{Reading}
-use Rattle.kinds.specs.declared.Reading.the-variants.{Step as Read, Refused}
-use Rattle.kinds.specs.Kinds.{places}
-use Rattle.base.specs.Placing.{place}
-use Rattle.wire.specs.Entries.{readAnswer, readAfter}
-use Rattle.kinds.proofs.Table.{places-length}
-use Rattle.writer.proofs.Writing.{placed-room, placed-short}
+use Rattle.spec_wire.specs.declared.Refusal.{Refusal}
+use Rattle.spec_wire.specs.declared.Refusal.the-variants.{ShortBuffer}
+use Rattle.spec_wire.specs.ResultWord.{done, refused}
+use Rattle.spec_wire.specs.declared.Step.{Step}
+use Rattle.spec_wire.specs.declared.Reading.{Reading}
+use Rattle.spec_wire.specs.declared.Reading.the-variants.{Step as Read, Refused}
+use Rattle.spec_wire.specs.Kinds.{places}
+use Rattle.spec_base.specs.Placing.{place}
+use Rattle.spec_wire.specs.Entries.{readAnswer, readAfter}
+use Rattle.spec_wire.proofs.Table.{places-length}
+use Rattle.wire_writer.proofs.Writing.{placed-room, placed-short}
 use borrow.Author.Needs.{needs}
 use Rattle.wire.proofs.exports.hyl_wire_read.Statement.{statement}
 use Rattle.wire.proofs.exports.hyl_wire_read.Tie as tie

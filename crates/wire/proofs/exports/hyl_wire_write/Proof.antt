@@ -7,14 +7,14 @@ use mathlib.Core.List.{List}
 use denote.Ref.{now}
 use lib.ListN.{take}
 use borrow.Author.Tests.{not-true, not-false}
-use Rattle.refusals.specs.declared.Refusal.the-variants.{Torn}
-use Rattle.refusals.specs.Packing.{refused}
-use Rattle.kinds.specs.declared.Reading.the-variants.{Step as Read, Refused}
-use Rattle.kinds.specs.Kinds.{kindIn, kindOf}
-use Rattle.kinds.specs.Record.{bodyBytes, recordBytes}
-use Rattle.writer.specs.Writer.{written, placed}
-use Rattle.told.specs.Told.{told}
-use Rattle.wire.specs.Entries.{writtenAnswer, writeAnswer, writeAfter}
+use Rattle.spec_wire.specs.declared.Refusal.the-variants.{Torn}
+use Rattle.spec_wire.specs.ResultWord.{refused}
+use Rattle.spec_wire.specs.declared.Reading.the-variants.{Step as Read, Refused}
+use Rattle.spec_wire.specs.Kinds.{kindIn, kindOf}
+use Rattle.spec_wire.specs.StepRecord.{bodyBytes, recordBytes}
+use Rattle.spec_wire.specs.Writer.{written, placed}
+use Rattle.spec_wire.specs.FieldArray.{told}
+use Rattle.spec_wire.specs.Entries.{writtenAnswer, writeAnswer, writeAfter}
 use Rattle.wire.proofs.Numbers.{told-kind, told-bytes}
 use borrow.Author.Needs.{needs}
 use Rattle.wire.proofs.exports.hyl_wire_write.Statement.{statement}

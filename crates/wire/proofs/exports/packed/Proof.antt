@@ -1,7 +1,7 @@
 -- `wire::exports::packed` meets its contract: the count or the refusal, as one number.
 use mathlib.Core.Path.{sym, ap, _∙_}
 use native.Mathlib.Omega.{arith}
-use Rattle.wire.specs.Entries.{writtenAnswer}
+use Rattle.spec_wire.specs.Entries.{writtenAnswer}
 use borrow.Author.Needs.{needs}
 use Rattle.wire.proofs.exports.packed.Statement.{statement}
 use Rattle.wire.proofs.exports.packed.Tie as tie

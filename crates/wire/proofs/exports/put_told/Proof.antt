@@ -6,12 +6,12 @@ use mathlib.Core.List.{List}
 use denote.Ref.{now}
 use lib.ListN.{length}
 use borrow.Rule.Slice.PartMut.{putMid}
-use Rattle.kinds.specs.Kinds.{kindOf}
-use Rattle.kinds.specs.Record.{bodyBytes, recordBytes}
-use Rattle.kinds.proofs.Table.{fields-size}
-use Rattle.kinds.proofs.Sizes.{length-body, length-record}
-use Rattle.writer.proofs.Writing.{written-short, placed-short, written-part, placed-part, written-count}
-use Rattle.wire.specs.Entries.{writtenAnswer}
+use Rattle.spec_wire.specs.Kinds.{kindOf}
+use Rattle.spec_wire.specs.StepRecord.{bodyBytes, recordBytes}
+use Rattle.spec_wire.proofs.Table.{fields-size}
+use Rattle.spec_wire.proofs.Sizes.{length-body, length-record}
+use Rattle.wire_writer.proofs.Writing.{written-short, placed-short, written-part, placed-part, written-count}
+use Rattle.spec_wire.specs.Entries.{writtenAnswer}
 use borrow.Author.Needs.{needs}
 use Rattle.wire.proofs.exports.put_told.Statement.{statement}
 use Rattle.wire.proofs.exports.put_told.Tie as tie

@@ -1,0 +1,57 @@
+// Whether the claims on a block, as lent bytes, are those of a sound record.
+ghost use mathlib.Core.Path.{_≡_};
+ghost use mathlib.Core.Bool.{_&&_};
+ghost use Prim.Native.Nat.{_+_, _≤_, _<_};
+ghost use lib.Dec.{eqb};
+ghost use lib.ListN.{length};
+ghost use Rattle.spec_base.specs.Folds.{implies};
+ghost use Rattle.spec_rack.specs.Boards.{member, empty, subset};
+ghost use Rattle.spec_rack.specs.Claims.{soundClaims};
+ghost use Rattle.spec_rack.specs.ClaimBytes.{claimsAt};
+use super::sets;
+use base::clear;
+use super::claims::read_set;
+use super::claims::waiting_at;
+
+// Whether a board's barring set lies within the waiting set, and is empty where the board waits.
+fn bars(waiting: u16, board: u8, barring: u16) -> bool
+    requires { ⌜ board < 16 ⌝ }
+    ensures { λ r. ⌜ r ≡ (subset barring waiting && implies (member waiting board) (eqb barring empty)) ⌝ }
+{
+    if sets::member(waiting, board) {
+        return barring == 0;
+    }
+    sets::subset(barring, waiting)
+}
+
+// Whether the claims are those of a sound record.
+fn sets_sound(rec: &[u8], at: usize, boards: u8) -> bool
+    requires { ⌜ (at + 32 ≤ length (now rec)) × (boards < 16) ⌝ }
+    ensures { λ r. ⌜ r ≡ soundClaims boards (claimsAt boards at (now (rec .entry))) ⌝ }
+{
+    let w = waiting_at(rec, at);
+    if !sets::boards_only(boards, w) {
+        return false;
+    }
+    let mut board = 0;
+    while board < boards {
+        board += 1;
+        let s = read_set(rec, at + 2 * (board as usize));
+        if !bars(w, board, s) {
+            return false;
+        }
+    }
+    true
+}
+
+// Whether the sets are sound. In most blocks no board is barred, and then the waiting set alone decides. The test has one length for every number of
+// boards, which is faster: a record that this engine made has 0 past the last board's set too.
+pub fn sound_at(rec: &[u8], at: usize, boards: u8) -> bool
+    requires { ⌜ (at + 32 ≤ length (now rec)) × (boards < 16) ⌝ }
+    ensures { λ r. ⌜ r ≡ soundClaims boards (claimsAt boards at (now (rec .entry))) ⌝ }
+{
+    if clear(rec, at + 2, 30) {
+        return sets::boards_only(boards, waiting_at(rec, at));
+    }
+    sets_sound(rec, at, boards)
+}

@@ -1,0 +1,43 @@
+-- `packing::letter` meets its contract: each arm knows its letter.
+use mathlib.Core.Path.{sym, ap}
+use Rattle.spec_rack.specs.ReplyWord.{letterNumber}
+use borrow.Author.Needs.{needs}
+use Rattle.engine.proofs.results.letter.Statement.{statement}
+use Rattle.engine.proofs.results.letter.Tie as tie
+
+enum-told : tie.Need-enum-told
+enum-told c = search needs
+
+enum-told-2 : tie.Need-enum-told-2
+enum-told-2 c = search needs
+
+enum-told-3 : tie.Need-enum-told-3
+enum-told-3 c = search needs
+
+enum-told-4 : tie.Need-enum-told-4
+enum-told-4 c = search needs
+
+returns : tie.Need-returns
+returns c = sym (ap letterNumber (c .enum-told .given .1))
+
+returns-2 : tie.Need-returns-2
+returns-2 c = sym (ap letterNumber (c .enum-told2 .given .1))
+
+returns-3 : tie.Need-returns-3
+returns-3 c = sym (ap letterNumber (c .enum-told3 .given .1))
+
+returns-4 : tie.Need-returns-4
+returns-4 c = sym (ap letterNumber (c .enum-told4 .given .1))
+
+pub letter-spec : {M : Type 1} → statement M
+letter-spec =
+    tie.close
+    (tie.spec
+    enum-told
+    enum-told-2
+    enum-told-3
+    enum-told-4
+    returns
+    returns-2
+    returns-3
+    returns-4)

@@ -1,2 +1,0 @@
-pub mod FreshBytes
-pub mod Opened

@@ -1,0 +1,153 @@
+-- Laws of a line: how long its parts are, numbers in decimal by their counts of digits, and how the parts are placed.
+use Prim.Native.Nat.{ℕ, zero, suc, _+_, _-_, _/_, _%_, _≤_, _<_}
+use native.Mathlib.Nat.{add-assoc}
+use native.Mathlib.Numerals.{add-one, sub-one}
+use native.Mathlib.Decide.{decLe}
+use native.Mathlib.Omega.{arith}
+use mathlib.Core.Path.{_≡_, refl, sym, ap, _∙_}
+use mathlib.Core.Bool.{Bool, true, false, cond}
+use mathlib.Core.List.{List, [], _∷_, _++_, append-assoc}
+use lib.ListN.{length, take, drop, set, length-append, length-set}
+use lib.Seq.{take-set-le, drop-at, set-split, length-take-le}
+use lib.Dec.{ltb}
+use borrow.Author.Tests.{lt-ltb, le-ltb}
+use Rattle.spec_base.specs.Placing.{place}
+use Rattle.spec_base.proofs.Placing.{length-place, place-none, place-byte, Placed, placed-more, placed-same}
+use Rattle.spec_wire.specs.declared.Refusal.{Refusal}
+use Rattle.spec_wire.specs.Refusals.{number}
+use Rattle.spec_wire.proofs.RefusalTable.{number-known}
+use Rattle.spec_rack.specs.declared.Answer.the-variants.{Done, Word}
+use Rattle.spec_rack.specs.declared.Reply.{Reply}
+use Rattle.spec_rack.specs.declared.Reply.the-variants.{Accepted, Refused}
+use Rattle.spec_rack.specs.Line.{digit, digits, decimal, said, line}
+
+-- ---- lengths
+
+pub length-decimal : (k n : ℕ) → length (decimal k n) ≤ k + 1
+unfolding decimal
+length-decimal zero n = omega arith
+length-decimal (suc k) n = by (length-decimal k (n / 10)) (ltb n 10)
+  where
+    by : length (decimal k (n / 10)) ≤ k + 1 → (t : Bool) → length (cond t (digit n ∷ []) (decimal k (n / 10) ++ digit (n % 10) ∷ [])) ≤ suc k + 1
+    by l true = omega arith
+    by l false = omega (arith, length-append (decimal k (n / 10)) (digit (n % 10) ∷ []))
+
+pub length-digits : (b k n : ℕ) → length (digits b k n) ≡ k
+unfolding digits
+length-digits b zero n = refl
+length-digits b (suc k) n = omega (arith, length-append (digits b k (n / b)) (digit (n % b) ∷ []), length-digits b k (n / b))
+
+length-said : (r : Reply) → length (said r) ≤ 9
+unfolding said
+length-said (Accepted Done) = omega arith
+length-said (Accepted (Word w)) = omega (arith, length-digits 16 8 w)
+length-said (Refused r) = omega (arith, length-decimal 1 (number r))
+
+pub length-line : (i : ℕ) (r : Reply) → length (line i r) ≤ 16
+unfolding line
+length-line i r = omega (arith, length-append (decimal 4 i) (32 ∷ (said r ++ 10 ∷ [])), length-append (said r) (10 ∷ []), length-decimal 4 i, length-said r)
+
+-- ---- numbers in decimal, by their counts of digits
+
+pub decimal-first : (k n : ℕ) → n < 10 → decimal k n ≡ digits 10 1 n
+unfolding decimal digits
+decimal-first zero n l = refl
+decimal-first (suc k) n l =
+    ap (λ (t : Bool). cond t (digit n ∷ []) (decimal k (n / 10) ++ digit (n % 10) ∷ [])) (lt-ltb n 10 l)
+    ∙ ap (λ (m : ℕ). digit m ∷ []) (let e : n ≡ n % 10 = omega arith in e)
+
+pub decimal-last : (n : ℕ) → decimal 0 n ≡ digits 10 1 n
+unfolding decimal digits
+decimal-last n = refl
+
+pub decimal-more : (k j n : ℕ) → 10 ≤ n → decimal k (n / 10) ≡ digits 10 j (n / 10) → decimal (suc k) n ≡ digits 10 (suc j) n
+unfolding decimal digits
+decimal-more k j n l e =
+    ap (λ (t : Bool). cond t (digit n ∷ []) (decimal k (n / 10) ++ digit (n % 10) ∷ [])) (le-ltb n 10 l)
+    ∙ ap (λ (m : List ℕ). m ++ digit (n % 10) ∷ []) e
+
+decimal-two : (n : ℕ) → n < 100 → decimal 1 n ≡ decimal 4 n
+decimal-two n l = by (decLe 10 n)
+  where
+    by : Dec (10 ≤ n) → decimal 1 n ≡ decimal 4 n
+    by (yes h) = decimal-more 0 1 n h (decimal-last (n / 10)) ∙ sym (decimal-more 3 1 n h (decimal-first 3 (n / 10) (omega arith)))
+    by (no h) = decimal-first 1 n (omega (arith, h)) ∙ sym (decimal-first 4 n (omega (arith, h)))
+
+-- ---- what is said
+
+pub said-done : said (Accepted Done) ≡ 111 ∷ digits 32 1 20
+unfolding said digits
+said-done = refl
+
+pub said-word : (w : ℕ) → said (Accepted (Word w)) ≡ 118 ∷ digits 16 8 w
+unfolding said
+said-word w = refl
+
+pub said-refused : (r : Refusal) (n w : ℕ) → n ≡ number r → decimal 4 n ≡ digits 10 w n → said (Refused r) ≡ 114 ∷ digits 10 w n
+unfolding said
+said-refused r n w e d = ap (λ (l : List ℕ). 114 ∷ l) (decimal-two (number r) (omega (arith, number-known r)) ∙ ap (decimal 4) (sym e) ∙ d)
+
+-- ---- digits placed from the last to the first
+
+-- a byte stored after a place that a run of bytes comes to
+place-last : (at x : ℕ) (a out : List ℕ) → at + length a < length out → place at a (set out (at + length a) x) ≡ place at (a ++ x ∷ []) out
+unfolding place
+place-last at x a out h =
+    let i : ℕ = at + length a in
+    let rest : drop i (set out i x) ≡ x ∷ drop (i + 1) out =
+    ap (drop i) (set-split out i x h) ∙ drop-at (take i out) (x ∷ drop (suc i) out) i (length-take-le i out (omega arith)) ∙ ap (λ (k : ℕ). x ∷ drop k out) (sym (add-one i)) in
+    rw (take-set-le at out i x (omega arith), rest) (simp (append-assoc, length-append, add-assoc))
+
+module _ (at base count n : ℕ) (out₀ : List ℕ) where
+  -- the digits that are left, placed before what there is, make the whole
+  pub record Going (out : List ℕ) (left rest : ℕ) : Type 0 where
+    pub few : left ≤ count
+    pub long : length out ≡ length out₀
+    pub whole : place at (digits base left rest) out ≡ place at (digits base count n) out₀
+
+  module _ (out : List ℕ) (rest : ℕ) where
+    pub going-more : at + count < length out₀ → (left d : ℕ) → 0 < left → Going out left rest → d ≡ digit (rest % base) → Going (set out (at + (left - 1)) d) (left - 1) (rest / base)
+    unfolding digits
+    going-more h zero d l g e = absurd (omega arith)
+    going-more h (suc k) d l g e =
+        rw (sub-one (suc k))
+        record {
+          few = omega (arith, g .few);
+          long = simp length-set (g .long);
+          whole =
+              ap (λ (j : ℕ). place at (digits base k (rest / base)) (set out (at + j) d)) (sym (length-digits base k (rest / base)))
+              ∙ place-last at d (digits base k (rest / base)) out (omega (arith, length-digits base k (rest / base), g .few, g .long))
+              ∙ ap (λ (x : ℕ). place at (digits base k (rest / base) ++ x ∷ []) out) e
+              ∙ g .whole;
+        }
+
+    pub going-end : (left : ℕ) → left ≤ 0 → Going out left rest → out ≡ place at (digits base count n) out₀
+    unfolding digits
+    going-end zero l g = sym (place-none at out) ∙ g .whole
+    going-end (suc k) l g = absurd (omega arith)
+
+-- a byte after the digits
+pub digits-ended : (at base count n end : ℕ) (out : List ℕ) → at + count < length out → place at (digits base count n) (set out (at + count) end) ≡ place at (digits base count n ++ end ∷ []) out
+digits-ended at base count n end out h =
+    ap (λ (k : ℕ). place at (digits base count n) (set out (at + k) end)) (sym (length-digits base count n))
+    ∙ place-last at end (digits base count n) out (omega (arith, length-digits base count n))
+
+-- ---- a line
+
+-- the index and a space, a letter, digits and a newline
+pub line-placed : (at next i w b k n letter : ℕ) (r : Reply) (out out₁ out₂ : List ℕ) → at + 16 ≤ length out → decimal 4 i ≡ digits 10 w i → said r ≡ letter ∷ digits b k n
+    → (next ≡ at + w + 1) × (out₁ ≡ place at (digits 10 w i ++ 32 ∷ []) out) → (last : ℕ)
+    → (last ≡ next + 1 + k + 1) × (out₂ ≡ place (next + 1) (digits b k n ++ 10 ∷ []) (set out₁ next letter))
+    → Placed at (line i r) out last out₂
+unfolding line
+line-placed at next i w b k n letter r out out₁ out₂ h ei er (p, q) last (p′, q′) =
+    let dw : length (digits 10 w i) ≡ w = length-digits 10 w i in
+    let dk : length (digits b k n) ≡ k = length-digits b k n in
+    let lw : length (digits 10 w i ++ 32 ∷ []) ≡ w + 1 = length-append (digits 10 w i) (32 ∷ []) ∙ ap (λ (j : ℕ). j + 1) dw in
+    let few : w ≤ 5 = omega (arith, length-decimal 4 i, ap length ei) in
+    let l₁ : length out₁ ≡ length out = ap length q ∙ length-place at (digits 10 w i ++ 32 ∷ []) out (omega arith) in
+    placed-same at last ((digits 10 w i ++ 32 ∷ []) ++ letter ∷ (digits b k n ++ 10 ∷ [])) (line i r) out out₂
+    (append-assoc (digits 10 w i) (32 ∷ []) (letter ∷ (digits b k n ++ 10 ∷ [])) ∙ (λ j. sym ei j ++ 32 ∷ (sym er j ++ 10 ∷ [])))
+    (placed-more at next last (digits 10 w i ++ 32 ∷ []) (letter ∷ (digits b k n ++ 10 ∷ [])) out out₁ out₂ (omega arith) (omega arith, q)
+    (placed-more next (next + 1) last (letter ∷ []) (digits b k n ++ 10 ∷ []) out₁ (set out₁ next letter) out₂ (omega arith) (refl, place-byte next letter out₁ (omega arith))
+    (omega (arith, length-append (digits b k n) (10 ∷ [])), q′)))

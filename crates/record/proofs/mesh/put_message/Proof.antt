@@ -1,0 +1,64 @@
+-- `mesh::put_message` meets its contract: sender, target and block, then the marks, then the words.
+use lib.ListN.{length-set}
+use native.Mathlib.Omega.{arith}
+use Rattle.spec_rack.specs.RecordLayout.{words}
+use Rattle.spec_base.specs.Layout.{over}
+use Prim.Native.Nat.{_+_}
+use mathlib.Core.Path.{ap, _∙_}
+use Rattle.record.proofs.Writing.{message-write, same-three}
+use borrow.Author.Needs.{needs}
+use Rattle.record.proofs.mesh.put_message.Statement.{statement}
+use Rattle.record.proofs.mesh.put_message.Tie as tie
+
+slice-write-s : tie.Need-slice-write-s
+slice-write-s c = search needs
+
+add-s : tie.Need-add-s
+add-s c = search needs
+
+slice-write-s-2 : tie.Need-slice-write-s-2
+slice-write-s-2 c = simp length-set (omega arith)
+
+add-s-2 : tie.Need-add-s-2
+add-s-2 c = search needs
+
+slice-write-s-3 : tie.Need-slice-write-s-3
+slice-write-s-3 c = simp length-set (omega arith)
+
+add-put-marks : tie.Need-add-put-marks
+add-put-marks c = search needs
+
+put-marks-requires : tie.Need-put-marks-requires
+put-marks-requires c κs = simp length-set (omega arith)
+
+add-put-words : tie.Need-add-put-words
+add-put-words c = search needs
+
+put-words-requires : tie.Need-put-words-requires
+put-words-requires c κs = omega (arith, c .before .before .before .put-marks .kept .0, same-three (c .before .before .before .before .before .before .before .args .s .now) (c .before .before .before .before .before .before .before .args .at) (c .before .before .before .before .before .before .before .args .m .sender) (c .before .before .before .before .before .before .before .args .m .target) (c .before .before .before .before .before .before .before .args .m .block))
+
+same-length : tie.Need-same-length
+same-length c = c .before .before .put-words .kept .0 ∙ c .before .before .before .before .before .before .put-marks .kept .0 ∙ same-three (c .before .before .before .before .before .before .before .before .before .before .args .s .now) (c .before .before .before .before .before .before .before .before .before .before .args .at) (c .before .before .before .before .before .before .before .before .before .before .args .m .sender) (c .before .before .before .before .before .before .before .before .before .before .args .m .target) (c .before .before .before .before .before .before .before .before .before .before .args .m .block)
+
+returns : tie.Need-returns
+returns c = let s = c .before .before .before .before .before .before .before .before .before .before in
+    let a = s .args in
+    c .before .before .put-words .ensures
+    ∙ ap (over (a .at + 6) 32 (words .write (a .m .words))) (c .before .before .before .before .before .before .put-marks .ensures)
+    ∙ message-write (a .at) (a .m) (a .s .now) (s .pre)
+
+pub put-message-spec : {M : Type 1} → statement M
+put-message-spec =
+    tie.close
+    (tie.spec
+    slice-write-s
+    add-s
+    slice-write-s-2
+    add-s-2
+    slice-write-s-3
+    add-put-marks
+    put-marks-requires
+    add-put-words
+    put-words-requires
+    same-length
+    returns)

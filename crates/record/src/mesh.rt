@@ -1,0 +1,92 @@
+// The messages in flight, oldest first.
+ghost use mathlib.Core.Path.{_≡_};
+ghost use mathlib.Core.List.{[], _∷_, _++_};
+ghost use Prim.Native.Nat.{_+_, _*_, _≤_, _<_};
+ghost use lib.ListN.{length, getD};
+ghost use Rattle.spec_base.specs.Folds.{removed};
+ghost use Rattle.spec_base.specs.Layout.{part, over};
+ghost use Rattle.spec_rack.specs.Rack.{messageAt};
+ghost use Rattle.spec_rack.specs.RecordLayout.{message, get, put};
+ghost use Rattle.spec_rack.specs.Needs.{Whole};
+ghost use Rattle.record.specs.Changes.{withMesh};
+use spec_rack::Message;
+use super::Marks;
+use super::byte;
+use super::tokens;
+use super::words;
+
+// The message at a position.
+pub fn message_at(rec: &[u8], position: u8) -> Message
+    requires { ⌜ Whole (now rec) × (position < getD (now rec) 3 0) ⌝ }
+    ensures { λ r. ⌜ r ≡ messageAt (get (now (rec .entry))) position ⌝ }
+{
+    let at = 4 + 38 * (position as usize);
+    let values = words::words_at(rec, at + 6);
+    Message {
+        sender: byte(rec, at, 0),
+        target: byte(rec, at, 1),
+        block: byte(rec, at, 2),
+        plain: byte(rec, at, 3),
+        owner: byte(rec, at, 4) == 1,
+        data: byte(rec, at, 5) == 1,
+        words: values,
+    }
+}
+
+// Writes a message at a place.
+fn put_message(s: &mut [u8], at: usize, m: Message)
+    requires { ⌜ at + 38 ≤ length (now s) ⌝ }
+    ensures { λ r. ⌜ now (s .exit) ≡ over at 38 (message .write m) (now (s .entry)) ⌝ }
+{
+    let values = m.words;
+    s[at] = m.sender;
+    s[at + 1] = m.target;
+    s[at + 2] = m.block;
+    tokens::put_marks(
+        s,
+        at + 3,
+        Marks {
+            plain: m.plain,
+            owner: m.owner,
+            valid: m.data,
+        },
+    );
+    words::put_words(s, at + 6, values);
+}
+
+// One message more, as the newest.
+pub fn append(rec: &mut [u8], m: Message)
+    requires { ⌜ Whole (now rec) × (getD (now rec) 3 0 < 64) ⌝ }
+    ensures { λ r. ⌜ now (rec .exit) ≡ put (withMesh (get (now (rec .entry))) (get (now (rec .entry)) .mesh ++ m ∷ [])) (now (rec .entry)) ⌝ }
+{
+    let count = rec[3];
+    let at = 4 + 38 * (count as usize);
+    put_message(rec, at, m);
+    rec[3] = count + 1;
+}
+
+// Copies the bytes that stand 38 further over those from a place on.
+fn move_up(s: &mut [u8], at: usize, count: usize)
+    requires { ⌜ at + 38 + count ≤ length (now s) ⌝ }
+    ensures { λ r. ⌜ now (s .exit) ≡ over at count (λ t. part (at + 38) count (now (s .entry))) (now (s .entry)) ⌝ }
+{
+    let mut i: usize = 0;
+    while i < count {
+        s[at + i] = s[at + 38 + i];
+        i += 1;
+    }
+}
+
+// The mesh without the message at a position; the rest keep their order.
+pub fn remove(rec: &mut [u8], position: u8)
+    requires { ⌜ Whole (now rec) × (position < getD (now rec) 3 0) ⌝ }
+    ensures { λ r. ⌜ now (rec .exit) ≡ put (withMesh (get (now (rec .entry))) (removed (get (now (rec .entry)) .mesh) position)) (now (rec .entry)) ⌝ }
+{
+    let count = rec[3];
+    let left = count - 1;
+    let behind = left - position;
+    let at = 4 + 38 * (position as usize);
+    let bytes = 38 * (behind as usize);
+    move_up(rec, at, bytes);
+    rec[3] = left;
+}

@@ -1,0 +1,73 @@
+// An opening: the fresh record, written over the front of a lent buffer.
+ghost use mathlib.Core.Path.{_≡_};
+ghost use Prim.Native.Nat.{_+_, _≤_, _<_};
+ghost use lib.ListN.{length, replicate};
+ghost use Rattle.spec_base.specs.Layout.{over};
+ghost use Rattle.spec_rack.specs.Rack.{freshBlock, fresh};
+ghost use Rattle.spec_rack.specs.RecordLayout.{recordLength, block, put};
+ghost use Rattle.spec_rack.specs.Opening.{openTold, openAfter};
+use spec_rack::Answer;
+use spec_rack::Reply;
+use record::sizes;
+use spec_wire::Refusal;
+
+// Makes bytes from a place on 0.
+fn clear(s: &mut [u8], at: usize, count: usize)
+    requires { ⌜ at + count ≤ length (now s) ⌝ }
+    ensures { λ r. ⌜ now (s .exit) ≡ over at count (λ t. replicate count 0) (now (s .entry)) ⌝ }
+{
+    let mut i: usize = 0;
+    while i < count {
+        s[at + i] = 0;
+        i += 1;
+    }
+}
+
+// Writes the fresh block at a place: home holds all tokens, valid.
+fn open_block(rec: &mut [u8], at: usize, boards: u32, tokens: u32)
+    requires { ⌜ (boards < 16) × (1 ≤ tokens) × (tokens ≤ 64) × (at + 592 ≤ length (now rec)) ⌝ }
+    ensures { λ r. ⌜ now (rec .exit) ≡ over at 592 (block boards .write (freshBlock boards tokens)) (now (rec .entry)) ⌝ }
+{
+    let components = boards as usize + 1;
+    let cells = 35 * components;
+    let sets = 2 * components;
+    let behind = at + 560;
+    clear(rec, at, cells);
+    rec[at] = (tokens - 1) as u8;
+    rec[at + 1] = 1;
+    rec[at + 2] = 1;
+    clear(rec, behind, sets);
+}
+
+// Writes the fresh record.
+fn write_fresh(rec: &mut [u8], boards: u32, blocks: u32, tokens: u32)
+    requires { ⌜ (boards < 16) × (1 ≤ tokens) × (tokens ≤ 64) × (blocks ≤ 32) × (recordLength blocks ≤ length (now rec)) ⌝ }
+    ensures { λ r. ⌜ now (rec .exit) ≡ put (fresh boards blocks tokens) (now (rec .entry)) ⌝ }
+{
+    rec[0] = boards as u8;
+    rec[1] = blocks as u8;
+    rec[2] = tokens as u8;
+    rec[3] = 0;
+    let count = blocks as usize;
+    let mut b: usize = 0;
+    while b < count {
+        let at = 2436 + 592 * b;
+        open_block(rec, at, boards, tokens);
+        b += 1;
+    }
+}
+
+// Opens a record of N boards, B blocks and T tokens to a block.
+pub fn open(rec: &mut [u8], boards: u32, blocks: u32, tokens: u32) -> Reply
+    ensures reply { λ r. ⌜ r ≡ openTold boards blocks tokens (now (rec .entry)) ⌝ }
+    ensures buffer { λ r. ⌜ now (rec .exit) ≡ openAfter boards blocks tokens (now (rec .entry)) ⌝ }
+{
+    if !sizes::in_range(boards, blocks, tokens) {
+        return Reply::Refused(Refusal::Size);
+    }
+    if rec.len() < 2436 + 592 * (blocks as usize) {
+        return Reply::Refused(Refusal::ShortBuffer);
+    }
+    write_fresh(rec, boards, blocks, tokens);
+    Reply::Accepted(Answer::Done)
+}

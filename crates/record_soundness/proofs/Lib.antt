@@ -1,0 +1,3 @@
+pub mod Fine
+pub mod MessageFine
+pub mod Deciding

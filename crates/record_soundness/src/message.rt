@@ -1,0 +1,41 @@
+// Whether the figures of a message are formed and sound, by its bytes.
+ghost use mathlib.Core.Path.{_≡_};
+ghost use Prim.Native.Nat.{_+_, _≤_};
+ghost use lib.ListN.{length};
+ghost use Rattle.record_soundness.specs.Message.{endsFine, messageFine};
+use base::both;
+use base::clear;
+use base::wide;
+use super::cell::marks_fine;
+use record::byte;
+
+// Whether a message's ends are known and differ, and its block is known.
+fn ends_fine(rec: &[u8], at: usize, boards: u8, blocks: u8) -> bool
+    requires { ⌜ at + 3 ≤ length (now rec) ⌝ }
+    ensures { λ r. ⌜ r ≡ endsFine boards blocks (now (rec .entry)) at ⌝ }
+{
+    let sender = byte(rec, at, 0);
+    let target = byte(rec, at, 1);
+    let block = byte(rec, at, 2);
+    both(
+        both(sender <= boards, target <= boards),
+        both(sender != target, block < blocks),
+    )
+}
+
+// Whether the message at a place is formed and sound.
+pub fn message_fine(rec: &[u8], at: usize, boards: u8, blocks: u8) -> bool
+    requires { ⌜ at + 38 ≤ length (now rec) ⌝ }
+    ensures { λ r. ⌜ r ≡ messageFine boards blocks (now (rec .entry)) at ⌝ }
+{
+    let ends = ends_fine(rec, at, boards, blocks);
+    let plain = byte(rec, at, 3);
+    let owner = byte(rec, at, 4);
+    let data = byte(rec, at, 5);
+    let carried = wide(plain) + wide(owner);
+    let fine = both(both(marks_fine(owner, data), 0 < carried), ends);
+    if data == 1 {
+        return fine;
+    }
+    both(fine, clear(rec, at + 6, 32))
+}

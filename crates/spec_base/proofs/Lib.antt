@@ -1,0 +1,12 @@
+pub mod Tests
+pub mod Folds
+pub mod Lists
+pub mod Maps
+pub mod Placing
+pub mod Numbers
+pub mod Parts
+pub mod Laws
+pub mod Forms
+pub mod Places
+pub mod Copies
+pub mod Zeros

@@ -1,0 +1,4 @@
+pub mod Folds
+pub mod Placing
+pub mod Number
+pub mod Layout

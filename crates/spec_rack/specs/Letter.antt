@@ -1,0 +1,31 @@
+-- Document 01, "State letter": the letter of a board and a block.
+use Prim.Native.Nat.{ℕ}
+use mathlib.Core.Bool.{cond}
+use lib.Dec.{eqb}
+use Rattle.spec_wire.specs.declared.Refusal.the-variants.{OffRack, Home}
+use Rattle.spec_wire.specs.declared.Check.{Check}
+use Rattle.spec_wire.specs.declared.Check.the-variants.{Pass, Refuse}
+use Rattle.spec_wire.specs.Refusals.{when_refuse_else_}
+use Rattle.spec_rack.specs.declared.Letter.{Letter}
+use Rattle.spec_rack.specs.declared.Letter.the-variants.{M, O, S, I}
+use Rattle.spec_rack.specs.declared.Lettered.{Lettered}
+use Rattle.spec_rack.specs.declared.Lettered.the-variants as Lettered
+use Rattle.spec_rack.specs.Rack.{Cell, Rack, cellAt, held}
+use Rattle.spec_rack.specs.Rules.{offRack}
+
+unfoldable pub letterCheck : Rack → ℕ → ℕ → Check
+letterCheck r c b =
+    when offRack r c b refuse OffRack else
+    when eqb c 0 refuse Home else
+    Pass
+
+-- M with T held; O with the owner and fewer; S with valid plain tokens only (valid says that some are held); otherwise I
+abbrev pub letterOf : ℕ → Cell → Letter
+letterOf t x = cond (eqb (held x) t) M (cond (x .owner) O (cond (x .valid) S I))
+
+abbrev pub lettered : Check → Letter → Lettered
+lettered Pass l = Lettered.Letter l
+lettered (Refuse n) l = Lettered.Refused n
+
+unfoldable pub letter : Rack → ℕ → ℕ → Lettered
+letter r c b = lettered (letterCheck r c b) (letterOf (r .tokens) (cellAt r b c))

@@ -1,0 +1,101 @@
+-- Document 01, "The rack": the figures of a rack, the fresh rack, and the tokens of a block.
+use Prim.Native.Nat.{ℕ, _+_, _-_}
+use mathlib.Core.Bool.{Bool, true, false, cond}
+use mathlib.Core.List.{List, [], _∷_}
+use lib.ListN.{getD, replicate}
+use lib.Dec.{eqb}
+use Rattle.spec_base.specs.Folds.{one, sum}
+use Rattle.spec_rack.specs.Claims.{Claims, noClaims}
+use Rattle.spec_rack.specs.declared.Message.{Message}
+
+-- the most messages that the mesh holds
+unfoldable pub meshLimit : ℕ
+meshLimit = 64
+
+-- the owner token's mark, here or not
+abbrev pub Owner : Type 0
+Owner = Bool
+
+-- how many owner tokens a mark stands for
+abbrev pub owners : Owner → ℕ
+owners o = one o
+
+-- what a component has of a block
+pub record Cell : Type 0 where
+  pub plain : ℕ
+  pub owner : Owner
+  pub valid : Bool
+  pub words : List ℕ
+
+-- a cell for each component, 0 (the home) to N; the waiting set and the barring sets
+pub record Block : Type 0 where
+  pub cells : List Cell
+  pub claims : Claims
+
+-- N, T, the B blocks, and the messages in flight, oldest first
+pub record Rack : Type 0 where
+  pub boards : ℕ
+  pub tokens : ℕ
+  pub blocks : List Block
+  pub mesh : List Message
+
+-- eight words, all 0
+abbrev pub zeros : List ℕ
+zeros = replicate 8 0
+
+-- nothing of a block
+abbrev pub noCell : Cell
+noCell = record { plain = 0; owner = false; valid = false; words = zeros }
+
+-- what stands past the ends of the lists; no step that passes its checks reads there
+abbrev pub noBlock : Block
+noBlock = record { cells = []; claims = [] }
+
+abbrev pub noMessage : Message
+noMessage = record { sender = 0; target = 0; block = 0; plain = 0; owner = false; «data» = false; words = zeros }
+
+abbrev pub blockAt : Rack → ℕ → Block
+blockAt r b = getD (r .blocks) b noBlock
+
+abbrev pub claimsAt : Rack → ℕ → Claims
+claimsAt r b = blockAt r b .claims
+
+abbrev pub cellAt : Rack → ℕ → ℕ → Cell
+cellAt r b c = getD (blockAt r b .cells) c noCell
+
+abbrev pub messageAt : Rack → ℕ → Message
+messageAt r i = getD (r .mesh) i noMessage
+
+-- ---- the fresh rack: home holds all T of each block, valid
+
+abbrev pub fullCell : ℕ → Cell
+fullCell t = record { plain = t - 1; owner = true; valid = true; words = zeros }
+
+abbrev pub freshBlock : ℕ → ℕ → Block
+freshBlock n t = record { cells = fullCell t ∷ replicate n noCell; claims = noClaims n }
+
+abbrev pub fresh : ℕ → ℕ → ℕ → Rack
+fresh n b t = record { boards = n; tokens = t; blocks = replicate b (freshBlock n t); mesh = [] }
+
+-- ---- the tokens of a block, in its cells and in the messages of the mesh
+
+-- "held" is plain plus owner
+abbrev pub held : Cell → ℕ
+held x = x .plain + owners (x .owner)
+
+abbrev pub carried : Message → ℕ
+carried m = m .plain + owners (m .owner)
+
+-- a figure of the messages of block b, added up
+abbrev pub inFlight : (Message → ℕ) → ℕ → List Message → ℕ
+inFlight g b ms = sum (λ m. cond (eqb (m .block) b) (g m) 0) ms
+
+-- a figure f of the cells and g of the messages of block b, added up
+abbrev pub total : (Cell → ℕ) → (Message → ℕ) → Rack → ℕ → ℕ
+total f g r b = sum f (blockAt r b .cells) + inFlight g b (r .mesh)
+
+abbrev pub tokensOf : Rack → ℕ → ℕ
+tokensOf r b = total held carried r b
+
+abbrev pub ownersOf : Rack → ℕ → ℕ
+ownersOf r b = total (λ x. owners (x .owner)) (λ m. owners (m .owner)) r b

@@ -1,0 +1,179 @@
+-- Document 01, "Steps" and "Refusal table": what each step of a rack does, and which refusal it meets first.
+use Prim.Native.Nat.{ℕ, _+_, _-_}
+use mathlib.Core.Bool.{Bool, not, cond, _&&_, _||_}
+use mathlib.Core.List.{List, [], _∷_, _++_}
+use lib.ListN.{length, getD, set}
+use lib.Dec.{eqb, leb, ltb}
+use Rattle.spec_base.specs.Folds.{removed, one}
+use Rattle.spec_wire.specs.declared.Refusal.{Refusal}
+use Rattle.spec_wire.specs.declared.Refusal.the-variants.{OffRack, Home, NoToken, NoData, Short, SelfSend, Claimed, Empty, NotHeld, BareOwner, MeshFull, NoMessage, Unclaimed, Size}
+use Rattle.spec_wire.specs.declared.Check.{Check}
+use Rattle.spec_wire.specs.declared.Check.the-variants.{Pass, Refuse}
+use Rattle.spec_wire.specs.Refusals.{when_refuse_else_}
+use Rattle.spec_wire.specs.declared.Step.{Step}
+use Rattle.spec_wire.specs.declared.Step.the-variants.{Load, Store, Send, Deliver, Raise, Lower, Forward}
+use Rattle.spec_rack.specs.Claims.{Claims, active, unclaimed, raiseCheck, raised, lowerCheck, lowered}
+use Rattle.spec_rack.specs.declared.Message.{Message}
+use Rattle.spec_rack.specs.declared.Answer.{Answer}
+use Rattle.spec_rack.specs.declared.Answer.the-variants.{Done, Word}
+use Rattle.spec_rack.specs.Rack.{Cell, Block, Rack, meshLimit, zeros, blockAt, claimsAt, cellAt, messageAt, held, owners, fresh}
+use Rattle.spec_rack.specs.Sound.{sizes}
+
+-- ---- the rack with one part of it changed: a block and the mesh, a cell and the mesh, the claims on a block
+
+abbrev pub changed : Rack → ℕ → Block → List Message → Rack
+changed r b k ms = record { boards = r .boards; tokens = r .tokens; blocks = set (r .blocks) b k; mesh = ms }
+
+abbrev pub withCell : Rack → ℕ → ℕ → Cell → List Message → Rack
+withCell r b c x ms = changed r b (record { cells = set (blockAt r b .cells) c x; claims = claimsAt r b }) ms
+
+abbrev pub withClaims : Rack → ℕ → Claims → Rack
+withClaims r b k = changed r b (record { cells = blockAt r b .cells; claims = k }) (r .mesh)
+
+-- ---- what the steps change
+
+-- store: writes the word in that component only
+abbrev pub written : Cell → ℕ → ℕ → Cell
+written x w v = record { plain = x .plain; owner = x .owner; valid = x .valid; words = set (x .words) w v }
+
+unfoldable pub stored : Rack → ℕ → ℕ → ℕ → ℕ → Rack
+stored r c b w v = withCell r b c (written (cellAt r b c) w v) (r .mesh)
+
+-- send: takes those tokens from the component; if nothing is held afterwards, valid becomes no; the words stay
+abbrev pub less : Cell → ℕ → Bool → Cell
+less x p o =
+    let plain = x .plain - p in
+    let owner = x .owner && not o in
+    record { plain = plain; owner = owner; valid = x .valid && ltb 0 (plain + owners owner); words = x .words }
+
+-- and appends the message, with the component's words if data is yes
+abbrev pub message : Cell → ℕ → ℕ → ℕ → ℕ → Bool → Bool → Message
+message x c b t p o d =
+    record { sender = c; target = t; block = b; plain = p; owner = o; «data» = d; words = cond d (x .words) zeros }
+
+unfoldable pub sent : Rack → ℕ → ℕ → ℕ → ℕ → Bool → Bool → Rack
+sent r c b t p o d =
+    let x = cellAt r b c in
+    withCell r b c (less x p o) (r .mesh ++ message x c b t p o d ∷ [])
+
+-- deliver: adds its tokens to the target; with data, the words become the message's and valid becomes yes
+abbrev pub more : Cell → Message → Cell
+more x m =
+    record {
+      plain = x .plain + m .plain;
+      owner = x .owner || m .owner;
+      valid = x .valid || m .«data»;
+      words = cond (m .«data») (m .words) (x .words);
+    }
+
+-- removes that message, the rest keeping their order
+unfoldable pub delivered : Rack → ℕ → Rack
+delivered r i =
+    let m = messageAt r i in
+    withCell r (m .block) (m .target) (more (cellAt r (m .block) (m .target)) m) (removed (r .mesh) i)
+
+-- forward: a send of all held tokens to the active board, data exactly if valid
+unfoldable pub forwarded : Rack → ℕ → ℕ → Rack
+forwarded r c b =
+    let x = cellAt r b c in
+    sent r c b (active (claimsAt r b)) (x .plain) (x .owner) (x .valid)
+
+-- ---- the refusal table: for each step the lines that name it, the first match deciding
+
+-- component above N, or block not below B
+abbrev pub offRack : Rack → ℕ → ℕ → Bool
+offRack r c b = ltb (r .boards) c || leb (length (r .blocks)) b
+
+-- 64 in flight
+abbrev pub meshFull : Rack → Bool
+meshFull r = leb meshLimit (length (r .mesh))
+
+-- position not below the count in flight
+abbrev pub pastMesh : Rack → ℕ → Bool
+pastMesh r i = leb (length (r .mesh)) i
+
+unfoldable pub check : Rack → Step → Check
+check r (Load c b w) =
+    when offRack r c b || ltb 7 w refuse OffRack else
+    when eqb c 0 refuse Home else
+    when eqb (held (cellAt r b c)) 0 refuse NoToken else
+    when not (cellAt r b c .valid) refuse NoData else
+    Pass
+check r (Store c b w v) =
+    when offRack r c b || ltb 7 w refuse OffRack else
+    when eqb c 0 refuse Home else
+    when ltb (held (cellAt r b c)) (r .tokens) refuse Short else
+    Pass
+check r (Send c b t p o d) =
+    when offRack r c b || ltb (r .boards) t refuse OffRack else
+    when eqb c t refuse SelfSend else
+    when not (unclaimed (claimsAt r b)) refuse Claimed else
+    when eqb (p + one o) 0 refuse Empty else
+    when ltb (cellAt r b c .plain) p || o && not (cellAt r b c .owner) refuse NotHeld else
+    when o && not d refuse BareOwner else
+    when d && not (cellAt r b c .valid) refuse NoData else
+    when meshFull r refuse MeshFull else
+    Pass
+check r (Deliver i) =
+    when pastMesh r i refuse NoMessage else
+    Pass
+check r (Raise c b) =
+    when offRack r c b refuse OffRack else
+    when eqb c 0 refuse Home else
+    raiseCheck (claimsAt r b) c
+check r (Lower c b) =
+    when offRack r c b refuse OffRack else
+    when eqb c 0 refuse Home else
+    lowerCheck (claimsAt r b) c
+check r (Forward c b) =
+    when offRack r c b refuse OffRack else
+    when unclaimed (claimsAt r b) refuse Unclaimed else
+    when eqb c (active (claimsAt r b)) refuse SelfSend else
+    when eqb (held (cellAt r b c)) 0 refuse NoToken else
+    when meshFull r refuse MeshFull else
+    Pass
+
+-- ---- a step that passes its checks: the rack after it, and its answer
+
+unfoldable pub after : Rack → Step → Rack
+after r (Load c b w) = r
+after r (Store c b w v) = stored r c b w v
+after r (Send c b t p o d) = sent r c b t p o d
+after r (Deliver i) = delivered r i
+after r (Raise c b) = withClaims r b (raised (claimsAt r b) c)
+after r (Lower c b) = withClaims r b (lowered (claimsAt r b) c)
+after r (Forward c b) = forwarded r c b
+
+-- a load gives the word, every other step only "done"
+unfoldable pub answer : Rack → Step → Answer
+answer r (Load c b w) = Word (getD (cellAt r b c .words) w 0)
+answer r (Store c b w v) = Done
+answer r (Send c b t p o d) = Done
+answer r (Deliver i) = Done
+answer r (Raise c b) = Done
+answer r (Lower c b) = Done
+answer r (Forward c b) = Done
+
+-- a refusal gives only its number and changes nothing
+pub data Outcome : Type 0 where
+  refused : Refusal → Outcome
+  accepted : Answer → Rack → Outcome
+
+abbrev pub settled : Check → Answer → Rack → Outcome
+settled Pass a r = accepted a r
+settled (Refuse n) a r = refused n
+
+unfoldable pub rules : Rack → Step → Outcome
+rules r s = settled (check r s) (answer r s) (after r s)
+
+-- ---- an opening with N, B and T; the buffer's length is asked for where there is one
+
+-- the first line of its table, and the lines below it
+abbrev pub openingThen : ℕ → ℕ → ℕ → Check → Check
+openingThen n b t rest = when not (sizes n b t) refuse Size else rest
+
+unfoldable pub openingCheck : ℕ → ℕ → ℕ → Check
+openingCheck n b t = openingThen n b t Pass
+
+unfoldable pub opening : ℕ → ℕ → ℕ → Outcome
+opening n b t = settled (openingCheck n b t) Done (fresh n b t)

@@ -1,0 +1,15 @@
+-- Document 01, "Program rackrun": records cut from one list of bytes by their lengths; an incomplete last one is one string, and so one torn step.
+use Prim.Native.Nat.{ℕ, zero, suc, _+_, min}
+use mathlib.Core.List.{List, [], _∷_}
+use lib.ListN.{length, take, drop}
+use Rattle.spec_base.specs.Number.{number}
+
+-- how many bytes the first record takes: three and as many as its length says, or all that are left
+unfoldable pub cutAt : List ℕ → ℕ
+cutAt s = min (3 + number (take 2 (drop 1 s))) (length s)
+
+-- the first records, k at most
+unfoldable pub cuts : ℕ → List ℕ → List (List ℕ)
+cuts zero s = []
+cuts (suc k) [] = []
+cuts (suc k) (x ∷ s) = let n = cutAt (x ∷ s) in take n (x ∷ s) ∷ cuts k (drop n (x ∷ s))

@@ -1,0 +1,11 @@
+pub mod Refusals
+pub mod ResultWord
+pub mod Kinds
+pub mod StepRecord
+pub mod Body
+pub mod Reader
+pub mod Writer
+pub mod FieldArray
+pub mod RoundTrip
+pub mod Entries
+pub mod Frames

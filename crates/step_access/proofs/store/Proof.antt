@@ -1,0 +1,55 @@
+-- `access::store` meets its contract: the table has a known component, block and word.
+use mathlib.Core.Path.{refl}
+use borrow.Author.Needs.{needs}
+use Rattle.spec_rack.specs.Rules.{answer, after}
+use Rattle.step_checks.proofs.Passed.{store-passed}
+use Rattle.step_checks.proofs.Made.{passes, made, kept}
+use Rattle.step_access.proofs.store.Statement.{statement}
+use Rattle.step_access.proofs.store.Tie as tie
+
+store-check-requires : tie.Need-store-check-requires
+store-check-requires c κs = search needs
+
+passes-requires : tie.Need-passes-requires
+passes-requires c κs = search needs
+
+set-word-requires : tie.Need-set-word-requires
+set-word-requires c κs =
+    let k = c .before .before .before in
+    let s = k .before .before .before in
+    store-passed (s .args .rec .now) (s .pre) (s .args .component) (s .args .block) (s .args .word) (s .args .value)
+    (passes _ _ _ (k .store-check .ensures) (c .before .before .passes .ensures) (c .before .if1 .taken))
+
+same-length : tie.Need-same-length
+same-length c = search needs
+
+returns : tie.Need-returns
+unfolding answer after
+returns c =
+    let way = c .before .before .before .before in
+    made _ _ refl _ (passes _ _ _ (way .before .before .store-check .ensures) (way .before .passes .ensures) (way .if1 .taken)) (c .before .before .set-word .ensures)
+
+told-requires : tie.Need-told-requires
+told-requires c κs = search needs
+
+same-length-2 : tie.Need-same-length-2
+same-length-2 c = search needs
+
+returns-2 : tie.Need-returns-2
+unfolding answer
+returns-2 c =
+    let way = c .before in
+    kept _ _ refl _ (way .before .before .store-check .ensures) (way .before .passes .ensures) (way .if1 .left) (c .told .ensures)
+
+pub store-spec : {M : Type 1} → statement M
+store-spec =
+    tie.close
+    (tie.spec
+    store-check-requires
+    passes-requires
+    set-word-requires
+    same-length
+    returns
+    told-requires
+    same-length-2
+    returns-2)

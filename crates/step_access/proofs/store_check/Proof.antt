@@ -1,0 +1,77 @@
+-- `access::store_check` meets its contract: its tests are those of the table, in order.
+use mathlib.Core.Path.{refl, sym, _∙_}
+use Rattle.spec_rack.proofs.RecordLaws.{tokens-is}
+use Rattle.step_checks.proofs.VerdictLaws.{store-off-rack, store-home, store-short, store-pass}
+use Rattle.step_checks.proofs.OnRack.{on-of, in-cell}
+use borrow.Author.Needs.{needs}
+use Rattle.step_access.proofs.store_check.Statement.{statement}
+use Rattle.step_access.proofs.store_check.Tie as tie
+
+off-word-requires : tie.Need-off-word-requires
+off-word-requires c κs = search needs
+
+returns : tie.Need-returns
+returns c = store-off-rack _ _ _ _ (c .before .off-word .ensures) (c .if1 .taken) _
+
+at-home-requires : tie.Need-at-home-requires
+at-home-requires c κs = search needs
+
+returns-2 : tie.Need-returns-2
+returns-2 c =
+    let c1 = c .before in
+    let c2 = c1 .before in
+    let c3 = c2 .before in
+    store-home _ _ _ _ (c3 .off-word .ensures) (c2 .if1 .left) (c1 .at-home .ensures) (c .if2 .taken) _
+
+marks-of-requires : tie.Need-marks-of-requires
+marks-of-requires c κs =
+    let c2 = c .before .before in
+    let c3 = c2 .before in
+    let c5 = c3 .before .before in
+    in-cell _ _ _ refl (on-of _ _ _ (c5 .args .word) (c3 .off-word .ensures) (c2 .if1 .left)) (c5 .pre)
+
+held-requires : tie.Need-held-requires
+held-requires c κs = search needs
+
+shared-slice-read-wide : tie.Need-shared-slice-read-wide
+shared-slice-read-wide c = search needs
+
+wide-requires : tie.Need-wide-requires
+wide-requires c κs = search needs
+
+returns-3 : tie.Need-returns-3
+returns-3 c =
+    let c1 = c .before in
+    let c3 = c1 .before .before in
+    let c4 = c3 .before in
+    let c5 = c4 .before in
+    let c6 = c5 .before in
+    let c7 = c6 .before in
+    let c8 = c7 .before in
+    store-short _ _ _ _ (c8 .off-word .ensures) (c7 .if1 .left) (c6 .at-home .ensures) (c5 .if2 .left) (c4 .marks-of .ensures) (c3 .held .ensures) _ (tokens-is _ ∙ sym (c1 .wide .ensures .0)) (c .if3 .taken)
+
+returns-4 : tie.Need-returns-4
+returns-4 c =
+    let c1 = c .before in
+    let c3 = c1 .before .before in
+    let c4 = c3 .before in
+    let c5 = c4 .before in
+    let c6 = c5 .before in
+    let c7 = c6 .before in
+    let c8 = c7 .before in
+    store-pass _ _ _ _ (c8 .off-word .ensures) (c7 .if1 .left) (c6 .at-home .ensures) (c5 .if2 .left) (c4 .marks-of .ensures) (c3 .held .ensures) _ (tokens-is _ ∙ sym (c1 .wide .ensures .0)) (c .if3 .left)
+
+pub store-check-spec : {M : Type 1} → statement M
+store-check-spec =
+    tie.close
+    (tie.spec
+    off-word-requires
+    returns
+    at-home-requires
+    returns-2
+    marks-of-requires
+    held-requires
+    shared-slice-read-wide
+    wide-requires
+    returns-3
+    returns-4)

@@ -1,0 +1,25 @@
+-- `marks::tokens` meets its contract: by the owner's mark.
+use mathlib.Core.Path.{ap}
+use native.Mathlib.Omega.{arith}
+use Rattle.spec_base.specs.Folds.{one}
+use borrow.Author.Needs.{needs}
+use Rattle.step_checks.proofs.tokens.tokens.Statement.{statement}
+use Rattle.step_checks.proofs.tokens.tokens.Tie as tie
+
+wide-requires : tie.Need-wide-requires
+wide-requires c κs = search needs
+
+add-result : tie.Need-add-result
+add-result c = search needs
+
+returns : tie.Need-returns
+returns c = omega (arith, ap one (c .before .if1 .taken))
+
+wide-requires-2 : tie.Need-wide-requires-2
+wide-requires-2 c κs = search needs
+
+returns-2 : tie.Need-returns-2
+returns-2 c = omega (arith, ap one (c .before .if1 .left))
+
+pub tokens-spec : {M : Type 1} → statement M
+tokens-spec = tie.close (tie.spec wide-requires add-result returns wide-requires-2 returns-2)

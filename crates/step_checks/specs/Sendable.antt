@@ -1,0 +1,14 @@
+-- Document 01, "Steps": what a send or a forward whose check passes has, for the taking of tokens and the making of a message.
+use Prim.Native.Nat.{ℕ, _≤_, _<_}
+use mathlib.Core.List.{List}
+use lib.ListN.{getD}
+use Rattle.spec_rack.specs.Rack.{cellAt}
+use Rattle.spec_rack.specs.RecordLayout.{get}
+use Rattle.spec_rack.specs.Needs.{Ready, InCell}
+
+-- p plain tokens of block b at component c of the record s, and room in the mesh
+pub record CanSend (s : List ℕ) (c b p : ℕ) : Type 0 where
+  pub ready : Ready s
+  pub in-cell : InCell s b c
+  pub enough : p ≤ cellAt (get s) b c .plain
+  pub room : getD s 3 0 < 64

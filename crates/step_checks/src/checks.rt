@@ -1,0 +1,87 @@
+// What the lines of the refusal table ask of the record. The laws of this crate say what each verdict tells, kind by kind.
+ghost use mathlib.Core.Path.{_≡_};
+ghost use mathlib.Core.Bool.{_||_};
+ghost use Prim.Native.Nat.{_+_, _*_, _<_};
+ghost use lib.Dec.{eqb, ltb};
+ghost use lib.ListN.{getD};
+ghost use Rattle.spec_rack.specs.Claims.{waiting};
+ghost use Rattle.spec_rack.specs.Rack.{claimsAt};
+ghost use Rattle.spec_rack.specs.Rules.{offRack, meshFull};
+ghost use Rattle.spec_rack.specs.RecordLayout.{get};
+ghost use Rattle.spec_rack.specs.Needs.{Whole};
+ghost use Rattle.step_checks.specs.Verdict.{passed, toldBy};
+use spec_rack::Answer;
+use spec_rack::Reply;
+use spec_wire::Check;
+
+// Whether the component is above N or the block not below B.
+pub fn off_rack(rec: &[u8], component: u8, block: u8) -> bool
+    requires { ⌜ Whole (now rec) ⌝ }
+    ensures { λ r. ⌜ r ≡ offRack (get (now (rec .entry))) component block ⌝ }
+{
+    if rec[0] < component {
+        return true;
+    }
+    rec[1] <= block
+}
+
+// Whether the component or the block is off the rack, or the word is above 7.
+pub fn off_word(rec: &[u8], component: u8, block: u8, word: u8) -> bool
+    requires { ⌜ Whole (now rec) ⌝ }
+    ensures { λ r. ⌜ r ≡ (offRack (get (now (rec .entry))) component block || ltb 7 word) ⌝ }
+{
+    if off_rack(rec, component, block) {
+        return true;
+    }
+    7 < word
+}
+
+// Whether the component is the home memory.
+pub fn at_home(component: u8) -> bool
+    ensures { λ r. ⌜ r ≡ eqb component 0 ⌝ }
+{
+    component == 0
+}
+
+// Where the sets of boards of a block stand.
+pub fn claims_place(block: u8) -> usize
+    ensures { λ r. ⌜ r ≡ 2996 + 592 * block ⌝ }
+{
+    2996 + 592 * (block as usize)
+}
+
+// The waiting set of a block.
+pub fn waiting(rec: &[u8], block: u8) -> u16
+    requires { ⌜ Whole (now rec) × (block < getD (now rec) 1 0) ⌝ }
+    ensures { λ r. ⌜ r ≡ waiting (claimsAt (get (now (rec .entry))) block) ⌝ }
+{
+    arbiter::claims::waiting_at(rec, claims_place(block))
+}
+
+// Whether 64 messages are in flight.
+pub fn mesh_full(rec: &[u8]) -> bool
+    requires { ⌜ Whole (now rec) ⌝ }
+    ensures { λ r. ⌜ r ≡ meshFull (get (now (rec .entry))) ⌝ }
+{
+    64 <= rec[3]
+}
+
+// Whether a verdict lets the step pass.
+pub fn passes(verdict: Check) -> bool
+    ensures { λ r. ⌜ r ≡ passed verdict ⌝ }
+{
+    match verdict {
+        Check::Pass => true,
+        Check::Refuse(_) => false,
+    }
+}
+
+// The reply to a step that gives only "done".
+pub fn told(verdict: Check) -> Reply
+    ensures { λ r. ⌜ r ≡ toldBy verdict ⌝ }
+{
+    match verdict {
+        Check::Pass => Reply::Accepted(Answer::Done),
+        Check::Refuse(refusal) => Reply::Refused(refusal),
+    }
+}

@@ -1,0 +1,64 @@
+// Raise and lower: their lines of the refusal table, and what they make of the claims on a block where they pass.
+ghost use mathlib.Core.Path.{_≡_};
+ghost use Rattle.spec_rack.specs.Rules.{check};
+ghost use Rattle.spec_rack.specs.RecordLayout.{get};
+ghost use Rattle.spec_rack.specs.Needs.{Whole, Ready};
+ghost use Rattle.spec_rack.specs.Apply.{replyTo, leftBy};
+use spec_wire::Step;
+use spec_rack::Answer;
+use spec_rack::Reply;
+use spec_wire::Check;
+use spec_wire::Refusal;
+
+fn raise_check(rec: &[u8], component: u8, block: u8) -> Check
+    requires { ⌜ Whole (now rec) ⌝ }
+    ensures { λ r. ⌜ r ≡ check (get (now (rec .entry))) (Step.Raise component block) ⌝ }
+{
+    if step_checks::checks::off_rack(rec, component, block) {
+        return Check::Refuse(Refusal::OffRack);
+    }
+    if step_checks::checks::at_home(component) {
+        return Check::Refuse(Refusal::Home);
+    }
+    arbiter::claims::raise_check(rec, step_checks::checks::claims_place(block), component)
+}
+
+fn lower_check(rec: &[u8], component: u8, block: u8) -> Check
+    requires { ⌜ Whole (now rec) ⌝ }
+    ensures { λ r. ⌜ r ≡ check (get (now (rec .entry))) (Step.Lower component block) ⌝ }
+{
+    if step_checks::checks::off_rack(rec, component, block) {
+        return Check::Refuse(Refusal::OffRack);
+    }
+    if step_checks::checks::at_home(component) {
+        return Check::Refuse(Refusal::Home);
+    }
+    arbiter::claims::lower_check(rec, step_checks::checks::claims_place(block), component)
+}
+
+pub fn raise(rec: &mut [u8], component: u8, block: u8) -> Reply
+    requires { ⌜ Ready (now rec) ⌝ }
+    ensures reply { λ r. ⌜ r ≡ replyTo (now (rec .entry)) (Step.Raise component block) ⌝ }
+    ensures buffer { λ r. ⌜ now (rec .exit) ≡ leftBy (now (rec .entry)) (Step.Raise component block) ⌝ }
+{
+    let verdict = raise_check(rec, component, block);
+    if step_checks::checks::passes(verdict) {
+        arbiter::change::raise_at(rec, step_checks::checks::claims_place(block), component);
+        return Reply::Accepted(Answer::Done);
+    }
+    step_checks::checks::told(verdict)
+}
+
+pub fn lower(rec: &mut [u8], component: u8, block: u8) -> Reply
+    requires { ⌜ Ready (now rec) ⌝ }
+    ensures reply { λ r. ⌜ r ≡ replyTo (now (rec .entry)) (Step.Lower component block) ⌝ }
+    ensures buffer { λ r. ⌜ now (rec .exit) ≡ leftBy (now (rec .entry)) (Step.Lower component block) ⌝ }
+{
+    let verdict = lower_check(rec, component, block);
+    if step_checks::checks::passes(verdict) {
+        let boards = rec[0];
+        arbiter::change::lower_at(rec, step_checks::checks::claims_place(block), boards, component);
+        return Reply::Accepted(Answer::Done);
+    }
+    step_checks::checks::told(verdict)
+}

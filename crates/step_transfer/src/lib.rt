@@ -1,0 +1,4 @@
+// 
+pub mod send_check;
+pub mod send;
+pub mod deliver;

@@ -1,3 +1,0 @@
-pub mod Sendable
-pub mod Apply
-pub mod Verdict
