@@ -1,38 +1,56 @@
 // A raise and a lower, made in the bytes of the claims on a block.
 ghost use mathlib.Core.Path.{_≡_};
 ghost use Prim.Native.Nat.{ℕ, _+_, _≤_, _<_};
+ghost use mathlib.Core.Bool.{true};
 ghost use lib.ListN.{length};
+ghost use Rattle.spec_base.specs.Layout.{part};
+ghost use Rattle.spec_rack.specs.Boards.{remove};
 ghost use Rattle.spec_rack.specs.Claims.{raised, lowered};
-ghost use Rattle.spec_rack.specs.ClaimBytes.{claimsAt, putClaims};
-use super::sets;
+ghost use Rattle.spec_rack.specs.ClaimBytes.{claims, claimsAt, putClaims};
 use super::claims::read_set;
 use super::claims::write_set;
+use super::sets;
+use spec_rack::WAITING_OFFSET;
 
 // The board joins the waiting set.
 pub fn raise_at(rec: &mut [u8], at: usize, board: u8)
-    requires { ⌜ (at + 32 ≤ length (now rec)) × (board < 16) ⌝ }
-    ensures { λ r. ⌜ ((n : ℕ) → n < 16 → now (rec .exit) ≡ putClaims n at (raised (claimsAt n at (now (rec .entry))) board) (now (rec .entry))) ⌝ }
+    requires { ⌜ (at + 34 ≤ length (now rec)) × (board < 16) ⌝ }
+    ensures { λ r. ⌜ ((n : ℕ) → n < 16 → claims n .formed (part at 34 (now (rec .entry))) ≡ true → now (rec .exit) ≡ putClaims n at (raised (claimsAt n at (now (rec .entry))) board) (now (rec .entry))) ⌝ }
 {
-    let w = read_set(rec, at);
+    let place = at + WAITING_OFFSET;
+    let w = read_set(rec, place);
     let more = sets::insert(w, board);
-    write_set(rec, at, more);
+    write_set(rec, place, more);
+}
+
+// The waiting set that remains where a board leaves it: every other board that waits, whatever its number.
+fn remaining(waiting: u16, board: u8) -> u16
+    requires { ⌜ board < 16 ⌝ }
+    ensures { λ r. ⌜ r ≡ remove waiting board ⌝ }
+{
+    let bit = 1u16 << board;
+    (waiting | bit) - bit
 }
 
 // The board leaves the waiting set and every barring set; its own barring set becomes the waiting set that remains.
 pub fn lower_at(rec: &mut [u8], at: usize, boards: u8, board: u8)
-    requires { ⌜ (at + 32 ≤ length (now rec)) × (1 ≤ board) × (board ≤ boards) × (boards < 16) ⌝ }
+    requires { ⌜ (at + 34 ≤ length (now rec)) × (1 ≤ board) × (board ≤ boards) × (boards < 16) × (claims boards .formed (part at 34 (now rec)) ≡ true) ⌝ }
     ensures { λ r. ⌜ now (rec .exit) ≡ putClaims boards at (lowered (claimsAt boards at (now (rec .entry))) board) (now (rec .entry)) ⌝ }
 {
-    let count = boards as usize + 1;
+    let count = boards as usize;
     let mut i = 0;
     while i < count {
-        let place = at + 2 * i;
+        let place = at + 2 + 2 * i;
         let s = read_set(rec, place);
         let left = sets::remove(s, board);
         write_set(rec, place, left);
         i += 1;
     }
-    let rest = read_set(rec, at);
+    let waiting = at + WAITING_OFFSET;
+    let w = read_set(rec, waiting);
+    let others = sets::remove(w, board);
+    write_set(rec, waiting, others);
+    let rest = remaining(w, board);
     let own = at + 2 * (board as usize);
     write_set(rec, own, rest);
 }

@@ -1,5 +1,5 @@
-// The claims on a block as bytes of a lent record: sixteen sets of two bytes from the place `at` on, the high byte first.
-// Set 0 is the waiting set, and set i the barring set of board i.
+// The claims on a block as bytes of a lent record: sixteen places for sets of two bytes from `at` on, the high byte first, and the waiting set behind them.
+// At place i stands the barring set of board i; a place without a board is 0.
 ghost use mathlib.Core.Path.{_≡_};
 ghost use Prim.Native.Nat.{ℕ, _+_, _≤_, _<_};
 ghost use lib.ListN.{length};
@@ -7,6 +7,7 @@ ghost use Rattle.spec_base.specs.Layout.{big, part, over};
 ghost use Rattle.spec_rack.specs.Claims.{waiting, active, raiseCheck, lowerCheck};
 ghost use Rattle.spec_rack.specs.ClaimBytes.{claimsAt};
 use super::sets;
+use spec_rack::WAITING_OFFSET;
 use spec_wire::Check;
 use spec_wire::Refusal;
 
@@ -36,15 +37,15 @@ pub fn write_set(s: &mut [u8], at: usize, boards: u16)
 
 // The waiting set.
 pub fn waiting_at(rec: &[u8], at: usize) -> u16
-    requires { ⌜ at + 32 ≤ length (now rec) ⌝ }
+    requires { ⌜ at + 34 ≤ length (now rec) ⌝ }
     ensures { λ r. ⌜ ((n : ℕ) → r ≡ waiting (claimsAt n at (now (rec .entry)))) ⌝ }
 {
-    read_set(rec, at)
+    read_set(rec, at + WAITING_OFFSET)
 }
 
 // The active board: the lowest-numbered waiting board, and 16 where no board waits.
 pub fn active_at(rec: &[u8], at: usize) -> u8
-    requires { ⌜ at + 32 ≤ length (now rec) ⌝ }
+    requires { ⌜ at + 34 ≤ length (now rec) ⌝ }
     ensures { λ r. ⌜ ((n : ℕ) → r ≡ active (claimsAt n at (now (rec .entry)))) ⌝ }
 {
     sets::lowest(waiting_at(rec, at))
@@ -52,7 +53,7 @@ pub fn active_at(rec: &[u8], at: usize) -> u8
 
 // The verdict on a board's raise.
 pub fn raise_check(rec: &[u8], at: usize, board: u8) -> Check
-    requires { ⌜ (at + 32 ≤ length (now rec)) × (board < 16) ⌝ }
+    requires { ⌜ (at + 34 ≤ length (now rec)) × (1 ≤ board) × (board < 16) ⌝ }
     ensures { λ r. ⌜ ((n : ℕ) → board ≤ n → n < 16 → r ≡ raiseCheck (claimsAt n at (now (rec .entry))) board) ⌝ }
 {
     let waits = sets::member(waiting_at(rec, at), board);
@@ -68,7 +69,7 @@ pub fn raise_check(rec: &[u8], at: usize, board: u8) -> Check
 
 // The verdict on a board's lower.
 pub fn lower_check(rec: &[u8], at: usize, board: u8) -> Check
-    requires { ⌜ (at + 32 ≤ length (now rec)) × (board < 16) ⌝ }
+    requires { ⌜ (at + 34 ≤ length (now rec)) × (board < 16) ⌝ }
     ensures { λ r. ⌜ ((n : ℕ) → r ≡ lowerCheck (claimsAt n at (now (rec .entry))) board) ⌝ }
 {
     let w = waiting_at(rec, at);

@@ -7,11 +7,13 @@ ghost use lib.ListN.{length};
 ghost use Rattle.spec_base.specs.Folds.{implies};
 ghost use Rattle.spec_rack.specs.Boards.{member, empty, subset};
 ghost use Rattle.spec_rack.specs.Claims.{soundClaims};
-ghost use Rattle.spec_rack.specs.ClaimBytes.{claimsAt};
-use super::sets;
-use base::clear;
+ghost use Rattle.spec_base.specs.Layout.{part};
+ghost use Rattle.spec_rack.specs.ClaimBytes.{claims, claimsAt};
 use super::claims::read_set;
 use super::claims::waiting_at;
+use super::sets;
+use base::both;
+use base::clear;
 
 // Whether a board's barring set lies within the waiting set, and is empty where the board waits.
 fn bars(waiting: u16, board: u8, barring: u16) -> bool
@@ -26,7 +28,7 @@ fn bars(waiting: u16, board: u8, barring: u16) -> bool
 
 // Whether the claims are those of a sound record.
 fn sets_sound(rec: &[u8], at: usize, boards: u8) -> bool
-    requires { ⌜ (at + 32 ≤ length (now rec)) × (boards < 16) ⌝ }
+    requires { ⌜ (at + 34 ≤ length (now rec)) × (boards < 16) ⌝ }
     ensures { λ r. ⌜ r ≡ soundClaims boards (claimsAt boards at (now (rec .entry))) ⌝ }
 {
     let w = waiting_at(rec, at);
@@ -44,14 +46,23 @@ fn sets_sound(rec: &[u8], at: usize, boards: u8) -> bool
     true
 }
 
-// Whether the sets are sound. In most blocks no board is barred, and then the waiting set alone decides. The test has one length for every number of
-// boards, which is faster: a record that this engine made has 0 past the last board's set too.
-pub fn sound_at(rec: &[u8], at: usize, boards: u8) -> bool
-    requires { ⌜ (at + 32 ≤ length (now rec)) × (boards < 16) ⌝ }
-    ensures { λ r. ⌜ r ≡ soundClaims boards (claimsAt boards at (now (rec .entry))) ⌝ }
+// Whether the places without a board are 0: the first, and those above the last board.
+fn places_clear(rec: &[u8], at: usize, boards: u8) -> bool
+    requires { ⌜ (at + 34 ≤ length (now rec)) × (boards < 16) ⌝ }
+    ensures { λ r. ⌜ r ≡ claims boards .formed (part at 34 (now (rec .entry))) ⌝ }
 {
-    if clear(rec, at + 2, 30) {
+    let used = boards as usize * 2;
+    let behind = at + 2 + used;
+    both(clear(rec, at, 2), clear(rec, behind, 30 - used))
+}
+
+// Whether the sets are formed and sound. In most blocks no board is barred: then the 32 bytes of the barring sets are 0, and the waiting set alone decides.
+pub fn sound_at(rec: &[u8], at: usize, boards: u8) -> bool
+    requires { ⌜ (at + 34 ≤ length (now rec)) × (boards < 16) ⌝ }
+    ensures { λ r. ⌜ r ≡ (claims boards .formed (part at 34 (now (rec .entry))) && soundClaims boards (claimsAt boards at (now (rec .entry)))) ⌝ }
+{
+    if clear(rec, at, 32) {
         return sets::boards_only(boards, waiting_at(rec, at));
     }
-    sets_sound(rec, at, boards)
+    both(places_clear(rec, at, boards), sets_sound(rec, at, boards))
 }

@@ -1,18 +1,20 @@
 // The state letter of a board and a block.
 ghost use mathlib.Core.Path.{_≡_};
-ghost use mathlib.Core.Bool.{true};
 ghost use Prim.Native.Nat.{_+_, _≤_, _<_};
 ghost use lib.ListN.{length, getD};
-ghost use Rattle.spec_base.specs.Layout.{part};
 ghost use Rattle.spec_rack.specs.Letter.{letterOf};
-ghost use Rattle.spec_rack.specs.RecordLayout.{cell};
+ghost use Rattle.spec_rack.specs.RecordLayout.{ownerOffset, validOffset, cellOf};
 ghost use Rattle.spec_rack.specs.RecordLetter.{letterTold};
 use base::either;
 use base::wide;
+use record_soundness::sound;
+use spec_rack::BLOCK_SIZE;
+use spec_rack::BLOCKS_OFFSET;
 use spec_rack::Letter;
 use spec_rack::Lettered;
+use spec_rack::OWNER_OFFSET;
+use spec_rack::VALID_OFFSET;
 use spec_wire::Refusal;
-use record_soundness::sound;
 
 // The byte at a place.
 fn byte(rec: &[u8], at: usize) -> u32
@@ -22,19 +24,19 @@ fn byte(rec: &[u8], at: usize) -> u32
     wide(rec[at])
 }
 
-// The letter of the cell at a place.
+// The letter of the component whose plain count stands at a place.
 fn letter_at(rec: &[u8], at: usize) -> Letter
-    requires { ⌜ (at + 35 ≤ length (now rec)) × (cell .formed (part at 35 (now rec)) ≡ true) ⌝ }
-    ensures { λ r. ⌜ r ≡ letterOf (getD (now (rec .entry)) 2 0) (cell .read (part at 35 (now (rec .entry)))) ⌝ }
+    requires { ⌜ (at + validOffset < length (now rec)) × (getD (now rec) (at + ownerOffset) 0 < 2) ⌝ }
+    ensures { λ r. ⌜ r ≡ letterOf (getD (now (rec .entry)) 2 0) (cellOf (now (rec .entry)) at) ⌝ }
 {
-    let owner = byte(rec, at + 1);
+    let owner = byte(rec, at + OWNER_OFFSET);
     if byte(rec, at) + owner == byte(rec, 2) {
         return Letter::M;
     }
     if owner == 1 {
         return Letter::O;
     }
-    if byte(rec, at + 2) == 1 {
+    if byte(rec, at + VALID_OFFSET) == 1 {
         Letter::S
     } else {
         Letter::I
@@ -53,6 +55,6 @@ pub fn letter(rec: &[u8], component: u32, block: u32) -> Lettered
     if component == 0 {
         return Lettered::Refused(Refusal::Home);
     }
-    let at = 2436 + 592 * (block as usize) + 35 * (component as usize);
+    let at = BLOCKS_OFFSET + BLOCK_SIZE * (block as usize) + component as usize;
     Lettered::Letter(letter_at(rec, at))
 }

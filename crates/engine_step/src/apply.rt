@@ -2,9 +2,9 @@
 ghost use mathlib.Core.Path.{_≡_};
 ghost use Rattle.spec_rack.specs.Needs.{Ready};
 ghost use Rattle.spec_rack.specs.Apply.{replyTo, leftBy};
-use spec_wire::Step;
 use spec_rack::Answer;
 use spec_rack::Reply;
+use spec_wire::Step;
 
 fn send(
     rec: &mut [u8],
@@ -19,7 +19,15 @@ fn send(
     ensures reply { λ r. ⌜ r ≡ replyTo (now (rec .entry)) (Step.Send component block target plain owner «data») ⌝ }
     ensures buffer { λ r. ⌜ now (rec .exit) ≡ leftBy (now (rec .entry)) (Step.Send component block target plain owner «data») ⌝ }
 {
-    let verdict = step_transfer::send_check::send_check(rec, component, block, target, plain, owner, data);
+    let verdict = step_transfer::send_check::send_check(
+        rec,
+        component,
+        block,
+        target,
+        plain,
+        owner,
+        data,
+    );
     if step_checks::checks::passes(verdict) { // a refused send takes no token
         step_transfer::send::dispatch(rec, component, block, target, plain, owner, data);
         return Reply::Accepted(Answer::Done);

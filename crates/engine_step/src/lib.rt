@@ -6,10 +6,10 @@ ghost use Rattle.spec_rack.specs.RecordSound.{soundBytes};
 ghost use Rattle.spec_rack.specs.Memory.{reply};
 ghost use Rattle.spec_rack.specs.Apply.{recordAfter};
 ghost use Rattle.spec_rack.specs.RecordStep.{outcome, stepTold, stepAfter};
-use spec_wire::Reading;
-use spec_wire::Step;
 use spec_rack::Reply;
+use spec_wire::Reading;
 use spec_wire::Refusal;
+use spec_wire::Step;
 
 // A step on a record whose soundness is known.
 fn judged(rec: &mut [u8], sound: bool, step: Step) -> Reply

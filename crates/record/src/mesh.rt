@@ -6,22 +6,24 @@ ghost use lib.ListN.{length, getD};
 ghost use Rattle.spec_base.specs.Folds.{removed};
 ghost use Rattle.spec_base.specs.Layout.{part, over};
 ghost use Rattle.spec_rack.specs.Rack.{messageAt};
-ghost use Rattle.spec_rack.specs.RecordLayout.{message, get, put};
+ghost use Rattle.spec_rack.specs.RecordLayout.{messageSize, message, get, put};
 ghost use Rattle.spec_rack.specs.Needs.{Whole};
 ghost use Rattle.record.specs.Changes.{withMesh};
-use spec_rack::Message;
 use super::Marks;
 use super::byte;
 use super::tokens;
 use super::words;
+use spec_rack::HEADER_SIZE;
+use spec_rack::MESSAGE_SIZE;
+use spec_rack::Message;
 
 // The message at a position.
 pub fn message_at(rec: &[u8], position: u8) -> Message
     requires { ⌜ Whole (now rec) × (position < getD (now rec) 3 0) ⌝ }
     ensures { λ r. ⌜ r ≡ messageAt (get (now (rec .entry))) position ⌝ }
 {
-    let at = 4 + 38 * (position as usize);
-    let values = words::words_at(rec, at + 6);
+    let at = HEADER_SIZE + MESSAGE_SIZE * (position as usize);
+    let values = words::words_at(rec, at + 8);
     Message {
         sender: byte(rec, at, 0),
         target: byte(rec, at, 1),
@@ -35,8 +37,8 @@ pub fn message_at(rec: &[u8], position: u8) -> Message
 
 // Writes a message at a place.
 fn put_message(s: &mut [u8], at: usize, m: Message)
-    requires { ⌜ at + 38 ≤ length (now s) ⌝ }
-    ensures { λ r. ⌜ now (s .exit) ≡ over at 38 (message .write m) (now (s .entry)) ⌝ }
+    requires { ⌜ at + messageSize ≤ length (now s) ⌝ }
+    ensures { λ r. ⌜ now (s .exit) ≡ over at messageSize (message .write m) (now (s .entry)) ⌝ }
 {
     let values = m.words;
     s[at] = m.sender;
@@ -51,7 +53,9 @@ fn put_message(s: &mut [u8], at: usize, m: Message)
             valid: m.data,
         },
     );
-    words::put_words(s, at + 6, values);
+    s[at + 6] = 0;
+    s[at + 7] = 0;
+    words::put_words(s, at + 8, values);
 }
 
 // One message more, as the newest.
@@ -60,19 +64,19 @@ pub fn append(rec: &mut [u8], m: Message)
     ensures { λ r. ⌜ now (rec .exit) ≡ put (withMesh (get (now (rec .entry))) (get (now (rec .entry)) .mesh ++ m ∷ [])) (now (rec .entry)) ⌝ }
 {
     let count = rec[3];
-    let at = 4 + 38 * (count as usize);
+    let at = HEADER_SIZE + MESSAGE_SIZE * (count as usize);
     put_message(rec, at, m);
     rec[3] = count + 1;
 }
 
-// Copies the bytes that stand 38 further over those from a place on.
+// Copies the bytes that stand a message further over those from a place on.
 fn move_up(s: &mut [u8], at: usize, count: usize)
-    requires { ⌜ at + 38 + count ≤ length (now s) ⌝ }
-    ensures { λ r. ⌜ now (s .exit) ≡ over at count (λ t. part (at + 38) count (now (s .entry))) (now (s .entry)) ⌝ }
+    requires { ⌜ at + messageSize + count ≤ length (now s) ⌝ }
+    ensures { λ r. ⌜ now (s .exit) ≡ over at count (λ t. part (at + messageSize) count (now (s .entry))) (now (s .entry)) ⌝ }
 {
     let mut i: usize = 0;
     while i < count {
-        s[at + i] = s[at + 38 + i];
+        s[at + i] = s[at + MESSAGE_SIZE + i];
         i += 1;
     }
 }
@@ -85,8 +89,8 @@ pub fn remove(rec: &mut [u8], position: u8)
     let count = rec[3];
     let left = count - 1;
     let behind = left - position;
-    let at = 4 + 38 * (position as usize);
-    let bytes = 38 * (behind as usize);
+    let at = HEADER_SIZE + MESSAGE_SIZE * (position as usize);
+    let bytes = MESSAGE_SIZE * (behind as usize);
     move_up(rec, at, bytes);
     rec[3] = left;
 }

@@ -4,11 +4,18 @@ ghost use Prim.Native.Nat.{_+_, _≤_, _<_};
 ghost use lib.ListN.{length, replicate};
 ghost use Rattle.spec_base.specs.Layout.{over};
 ghost use Rattle.spec_rack.specs.Rack.{freshBlock, fresh};
-ghost use Rattle.spec_rack.specs.RecordLayout.{recordLength, block, put};
+ghost use Rattle.spec_rack.specs.RecordLayout.{blockSize, recordLength, block, put};
 ghost use Rattle.spec_rack.specs.Opening.{openTold, openAfter};
-use spec_rack::Answer;
-use spec_rack::Reply;
 use record::sizes;
+use spec_rack::Answer;
+use spec_rack::BLOCK_SIZE;
+use spec_rack::BLOCKS_OFFSET;
+use spec_rack::CLAIMS_OFFSET;
+use spec_rack::OWNER_OFFSET;
+use spec_rack::Reply;
+use spec_rack::VALID_OFFSET;
+use spec_rack::WORDS_OFFSET;
+use spec_rack::WORDS_SIZE;
 use spec_wire::Refusal;
 
 // Makes bytes from a place on 0.
@@ -25,18 +32,18 @@ fn clear(s: &mut [u8], at: usize, count: usize)
 
 // Writes the fresh block at a place: home holds all tokens, valid.
 fn open_block(rec: &mut [u8], at: usize, boards: u32, tokens: u32)
-    requires { ⌜ (boards < 16) × (1 ≤ tokens) × (tokens ≤ 64) × (at + 592 ≤ length (now rec)) ⌝ }
-    ensures { λ r. ⌜ now (rec .exit) ≡ over at 592 (block boards .write (freshBlock boards tokens)) (now (rec .entry)) ⌝ }
+    requires { ⌜ (boards < 16) × (1 ≤ tokens) × (tokens ≤ 64) × (at + blockSize ≤ length (now rec)) ⌝ }
+    ensures { λ r. ⌜ now (rec .exit) ≡ over at blockSize (block boards .write (freshBlock boards tokens)) (now (rec .entry)) ⌝ }
 {
-    let components = boards as usize + 1;
-    let cells = 35 * components;
-    let sets = 2 * components;
-    let behind = at + 560;
-    clear(rec, at, cells);
+    let words = WORDS_SIZE * (boards as usize + 1);
+    let sets = at + CLAIMS_OFFSET;
+    let behind = at + WORDS_OFFSET;
+    clear(rec, at, 48);
+    clear(rec, sets, 34);
+    clear(rec, behind, words);
     rec[at] = (tokens - 1) as u8;
-    rec[at + 1] = 1;
-    rec[at + 2] = 1;
-    clear(rec, behind, sets);
+    rec[at + OWNER_OFFSET] = 1;
+    rec[at + VALID_OFFSET] = 1;
 }
 
 // Writes the fresh record.
@@ -51,7 +58,7 @@ fn write_fresh(rec: &mut [u8], boards: u32, blocks: u32, tokens: u32)
     let count = blocks as usize;
     let mut b: usize = 0;
     while b < count {
-        let at = 2436 + 592 * b;
+        let at = BLOCKS_OFFSET + BLOCK_SIZE * b;
         open_block(rec, at, boards, tokens);
         b += 1;
     }
@@ -65,7 +72,7 @@ pub fn open(rec: &mut [u8], boards: u32, blocks: u32, tokens: u32) -> Reply
     if !sizes::in_range(boards, blocks, tokens) {
         return Reply::Refused(Refusal::Size);
     }
-    if rec.len() < 2436 + 592 * (blocks as usize) {
+    if rec.len() < BLOCKS_OFFSET + BLOCK_SIZE * (blocks as usize) {
         return Reply::Refused(Refusal::ShortBuffer);
     }
     write_fresh(rec, boards, blocks, tokens);

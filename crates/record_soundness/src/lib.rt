@@ -1,63 +1,39 @@
-// Whether the record at the front of a buffer is sound, decided in one pass over its figures.
-pub mod cell;
+// Whether the record at the front of a buffer is sound: one pass over its messages, then passes over its blocks.
+pub mod lanes;
 pub mod message;
 
 ghost use mathlib.Core.Path.{_≡_};
-ghost use mathlib.Core.Bool.{true};
+ghost use mathlib.Core.Bool.{true, _&&_};
 ghost use Prim.Native.Nat.{ℕ, _+_, _*_, _≤_, _<_};
 ghost use lib.ListN.{length, getD, replicate};
 ghost use Rattle.spec_base.specs.Folds.{below};
 ghost use Rattle.spec_rack.specs.Sound.{sizes};
-ghost use Rattle.spec_rack.specs.RecordLayout.{recordLength};
+ghost use Rattle.spec_rack.specs.RecordLayout.{blockSize, blocksOffset, blockOffset, messageOffset, recordLength};
 ghost use Rattle.spec_rack.specs.RecordSound.{soundBytes};
-ghost use Rattle.record_soundness.specs.Fine.{cellFine};
 ghost use Rattle.record_soundness.specs.Message.{messageFine};
-ghost use Rattle.record_soundness.specs.Deciding.{flying, resting, blockFine};
+ghost use Rattle.record_soundness.specs.Deciding.{flying, tokensFine, claimsFine, blockFine};
 use base::both;
 use base::wide;
-use cell::cell_fine;
-use cell::marked;
-use cell::weight;
+use lanes::sum16;
 use message::message_fine;
+use message::weight;
 use record::sizes;
-
-// Whether some cells are fine, and their weight.
-pub struct Tally {
-    pub fine: bool,
-    pub weight: u32,
-}
-
-// The first cells of a block. Most have no mark, and nothing of those can be wrong.
-fn cells(rec: &[u8], at: usize, count: usize) -> Tally
-    requires { ⌜ (count ≤ 16) × (at + 560 ≤ length (now rec)) ⌝ }
-    ensures fine { λ r. ⌜ r .fine ≡ below count (λ c. cellFine (now (rec .entry)) (at + 35 * c)) ⌝ }
-    ensures weight { λ r. ⌜ (r .weight ≡ resting (now (rec .entry)) at count) × (r .weight ≤ 267395040) ⌝ }
-{
-    let mut fine = true;
-    let mut sum: u32 = 0;
-    let mut c: usize = 0;
-    while c < count {
-        let place = at + 35 * c;
-        if marked(rec, place) {
-            fine = both(cell_fine(rec, place), fine);
-            sum = weight(rec, place) + sum;
-        } else {
-            sum = wide(rec[place]) + sum;
-        }
-        c += 1;
-    }
-    Tally { fine, weight: sum }
-}
+use spec_rack::BLOCK_SIZE;
+use spec_rack::BLOCKS_OFFSET;
+use spec_rack::CLAIMS_OFFSET;
+use spec_rack::HEADER_SIZE;
+use spec_rack::MESSAGE_SIZE;
+use spec_rack::OWNER_OFFSET;
 
 // Whether the messages are fine; where they are, each block's weight in them is added to its sum.
 fn mesh_fine(rec: &[u8], boards: u8, blocks: u8, count: usize, sums: &mut [u32; 32]) -> bool
-    requires { ⌜ (blocks ≤ 32) × (count ≤ 64) × (2436 ≤ length (now rec)) × (now sums ≡ replicate 32 0) ⌝ }
-    ensures fine { λ r. ⌜ r ≡ below count (λ i. messageFine boards blocks (now (rec .entry)) (4 + 38 * i)) ⌝ }
+    requires { ⌜ (blocks ≤ 32) × (count ≤ 64) × (blocksOffset ≤ length (now rec)) × (now sums ≡ replicate 32 0) ⌝ }
+    ensures fine { λ r. ⌜ r ≡ below count (λ i. messageFine boards blocks (now (rec .entry)) (messageOffset i)) ⌝ }
     ensures sums { λ r. ⌜ (r ≡ true → (k : ℕ) → k < 32 → (getD (now (sums .exit)) k 0 ≡ flying (now (rec .entry)) count k)) ⌝ }
 {
     let mut i: usize = 0;
     while i < count {
-        let at = 4 + 38 * i;
+        let at = HEADER_SIZE + MESSAGE_SIZE * i;
         if !message_fine(rec, at, boards, blocks) {
             return false;
         }
@@ -68,32 +44,46 @@ fn mesh_fine(rec: &[u8], boards: u8, blocks: u8, count: usize, sums: &mut [u32; 
     true
 }
 
-// Whether the block at a place is sound, of which the mesh has a weight.
-fn block_fine(rec: &[u8], at: usize, boards: u8, tokens: u8, mesh: u32) -> bool
-    requires { ⌜ (boards < 16) × (at + 592 ≤ length (now rec)) × (mesh ≤ 1069580160) ⌝ }
-    ensures { λ r. ⌜ r ≡ blockFine boards tokens (now (rec .entry)) at mesh ⌝ }
+// Whether the block at a place has T tokens with one owner, given the weight of its messages in flight.
+fn tokens_fine(rec: &[u8], at: usize, tokens: u8, mesh: u32) -> bool
+    requires { ⌜ (at + blockSize ≤ length (now rec)) × (mesh ≤ 1069563840) ⌝ }
+    ensures { λ r. ⌜ r ≡ tokensFine tokens (now (rec .entry)) at mesh ⌝ }
 {
-    let t = cells(rec, at, wide(boards) as usize + 1);
-    let sum = t.weight + mesh;
-    let claims = arbiter::sound::sound_at(rec, at + 560, boards);
-    both(both(t.fine, sum == wide(tokens) + 65536), claims)
+    sum16(rec, at) + sum16(rec, at + OWNER_OFFSET) * 65536 + mesh == wide(tokens) + 65535
+}
+
+// Whether the tokens and the claims of every block are sound.
+fn sums_fine(rec: &[u8], boards: u8, tokens: u8, count: usize, sums: &[u32; 32]) -> bool
+    requires { ⌜ (boards < 16) × (count ≤ 32) × (recordLength count ≤ length (now rec)) × ((k : ℕ) → k < 32 → getD (now sums) k 0 ≤ 1069563840) ⌝ }
+    ensures { λ r. ⌜ r ≡ below count (λ b. tokensFine tokens (now (rec .entry)) (blockOffset b) (getD (now (sums .entry)) b 0) && claimsFine boards (now (rec .entry)) (blockOffset b)) ⌝ }
+{
+    let mut b: usize = 0;
+    while b < count {
+        let at = BLOCKS_OFFSET + BLOCK_SIZE * b;
+        if !tokens_fine(rec, at, tokens, sums[b]) {
+            return false;
+        }
+        if !arbiter::sound::sound_at(rec, at + CLAIMS_OFFSET, boards) {
+            return false;
+        }
+        b += 1;
+    }
+    true
 }
 
 // Whether every block is sound.
 fn blocks_fine(rec: &[u8], boards: u8, tokens: u8, count: usize, sums: &[u32; 32]) -> bool
-    requires { ⌜ (boards < 16) × (count ≤ 32) × (recordLength count ≤ length (now rec)) × ((k : ℕ) → k < 32 → getD (now sums) k 0 ≤ 1069580160) ⌝ }
-    ensures { λ r. ⌜ r ≡ below count (λ b. blockFine boards tokens (now (rec .entry)) (2436 + 592 * b) (getD (now (sums .entry)) b 0)) ⌝ }
+    requires { ⌜ (boards < 16) × (count ≤ 32) × (recordLength count ≤ length (now rec)) × ((k : ℕ) → k < 32 → getD (now sums) k 0 ≤ 1069563840) ⌝ }
+    ensures { λ r. ⌜ r ≡ below count (λ b. blockFine boards tokens (now (rec .entry)) (blockOffset b) (getD (now (sums .entry)) b 0)) ⌝ }
 {
-    let mut fine = true;
-    let mut b: usize = 0;
-    while b < count {
-        fine = both(
-            block_fine(rec, 2436 + 592 * b, boards, tokens, sums[b]),
-            fine,
-        );
-        b += 1;
+    let summed = sums_fine(rec, boards, tokens, count, sums);
+    if !summed {
+        return false;
     }
-    fine
+    both(
+        lanes::all_marks(rec, count),
+        lanes::rooms_clear(rec, count, boards),
+    )
 }
 
 // Whether the sizes are in range.
@@ -107,7 +97,7 @@ fn sizes_fine(boards: u8, blocks: u8, tokens: u8) -> bool
 pub fn sound(rec: &[u8]) -> bool
     ensures { λ r. ⌜ r ≡ soundBytes (now (rec .entry)) ⌝ }
 {
-    if rec.len() < 4 {
+    if rec.len() < HEADER_SIZE {
         return false;
     }
     let boards = rec[0];
@@ -118,7 +108,7 @@ pub fn sound(rec: &[u8]) -> bool
         return false;
     }
     let count = wide(blocks) as usize;
-    if rec.len() < 2436 + 592 * count {
+    if rec.len() < BLOCKS_OFFSET + BLOCK_SIZE * count {
         return false;
     }
     let mut sums = [0u32; 32];

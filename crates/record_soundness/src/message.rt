@@ -2,12 +2,28 @@
 ghost use mathlib.Core.Path.{_≡_};
 ghost use Prim.Native.Nat.{_+_, _≤_};
 ghost use lib.ListN.{length};
+ghost use Rattle.spec_rack.specs.RecordLayout.{messageSize};
+ghost use Rattle.record_soundness.specs.Fine.{marksFine, weightAt};
 ghost use Rattle.record_soundness.specs.Message.{endsFine, messageFine};
 use base::both;
 use base::clear;
 use base::wide;
-use super::cell::marks_fine;
 use record::byte;
+
+// The weight of the plain count and the owner at a place.
+pub fn weight(rec: &[u8], at: usize) -> u32
+    requires { ⌜ at + 2 ≤ length (now rec) ⌝ }
+    ensures { λ r. ⌜ (r ≡ weightAt (now (rec .entry)) at) × (r ≤ 16711935) ⌝ }
+{
+    wide(byte(rec, at, 0)) + wide(byte(rec, at, 1)) * 65536
+}
+
+// Whether the owner's mark and data (here `valid`) are 0 or 1, and the owner stands only beside data.
+fn marks_fine(owner: u8, valid: u8) -> bool
+    ensures { λ r. ⌜ r ≡ marksFine owner valid ⌝ }
+{
+    both(owner <= valid, valid < 2)
+}
 
 // Whether a message's ends are known and differ, and its block is known.
 fn ends_fine(rec: &[u8], at: usize, boards: u8, blocks: u8) -> bool
@@ -25,7 +41,7 @@ fn ends_fine(rec: &[u8], at: usize, boards: u8, blocks: u8) -> bool
 
 // Whether the message at a place is formed and sound.
 pub fn message_fine(rec: &[u8], at: usize, boards: u8, blocks: u8) -> bool
-    requires { ⌜ at + 38 ≤ length (now rec) ⌝ }
+    requires { ⌜ at + messageSize ≤ length (now rec) ⌝ }
     ensures { λ r. ⌜ r ≡ messageFine boards blocks (now (rec .entry)) at ⌝ }
 {
     let ends = ends_fine(rec, at, boards, blocks);
@@ -33,9 +49,12 @@ pub fn message_fine(rec: &[u8], at: usize, boards: u8, blocks: u8) -> bool
     let owner = byte(rec, at, 4);
     let data = byte(rec, at, 5);
     let carried = wide(plain) + wide(owner);
-    let fine = both(both(marks_fine(owner, data), 0 < carried), ends);
+    let fine = both(
+        both(both(marks_fine(owner, data), 0 < carried), ends),
+        clear(rec, at + 6, 2),
+    );
     if data == 1 {
         return fine;
     }
-    both(fine, clear(rec, at + 6, 32))
+    both(fine, clear(rec, at + 8, 32))
 }

@@ -1,10 +1,10 @@
 -- A sound record as facts about its rack; and that the record of a sound rack of the same sizes, written over it, is sound again.
 use Prim.Native.Nat.{ℕ, _^_, _≤_, _<_}
 use native.Mathlib.Omega.{arith}
-use mathlib.Core.Path.{_≡_, sym, subst}
+use mathlib.Core.Path.{_≡_, sym, _∙_, subst}
 use mathlib.Core.Bool.{true}
 use mathlib.Core.List.{List}
-use lib.ListN.{length, getD}
+use lib.ListN.{length, getD, drop}
 use Rattle.spec_base.specs.Folds.{All}
 use Rattle.spec_base.proofs.Tests.{and-l, and-r, and-of}
 use Rattle.spec_base.proofs.Folds.{all-at, all-map}
@@ -15,9 +15,10 @@ use Rattle.spec_rack.proofs.Sound.{Sound, sound-facts, sound-test}
 use Rattle.spec_rack.proofs.Change.{Fits}
 use Rattle.spec_rack.specs.RecordLayout.{recordLength, get, put}
 use Rattle.spec_rack.specs.RecordSound.{wellFormed, soundBytes}
+use Rattle.spec_rack.specs.BufferAfter.{Behind}
 use Rattle.spec_rack.specs.Needs.{Whole}
 use Rattle.spec_rack.proofs.RecordParts.{CellFits, MessageFits, BlockFits}
-use Rattle.spec_rack.proofs.RecordLaws.{Formed, well-formed, formed-of, law, boards-is, blocks-is, mesh-is, get-put, put-formed}
+use Rattle.spec_rack.proofs.RecordLaws.{Formed, well-formed, formed-of, law, boards-is, blocks-is, mesh-is, get-put, put-keeps, put-behind, put-formed}
 use Rattle.spec_rack.proofs.Holdable.{holdable, boards-low, blocks-low}
 
 pub record Live (s : List ℕ) : Type 0 where
@@ -34,7 +35,7 @@ words-fit s ok =
       cells = λ b l.
           all-map CellFits (λ x. All (λ (w : ℕ). w < 2 ^ 32) (x .words)) (blockAt (get s) b .cells)
           (all-at (BlockFits (getD s 0 0)) (get s .blocks) (held .1 .1) b noBlock l .0 .1) (λ x h. h .1 .1);
-      mesh = all-map MessageFits (λ x. All (λ (w : ℕ). w < 2 ^ 32) (x .words)) (get s .mesh) (held .0 .1) (λ x h. h .1 .1 .1);
+      mesh = all-map MessageFits (λ x. All (λ (w : ℕ). w < 2 ^ 32) (x .words)) (get s .mesh) (held .0 .1) (λ x h. h .1 .1);
     }
 
 pub rack-sound : (s : List ℕ) → soundBytes s ≡ true → Sound (get s)
@@ -73,6 +74,13 @@ module _ (s : List ℕ) (live : Live s) where
 
     pub put-is : get (put r s) ≡ r
     put-is = get-put r (holdable r sr fr) s room
+
+    pub put-rest : Behind (getD s 1 0) s (put r s)
+    put-rest =
+        record {
+          size = put-keeps r (holdable r sr fr) s room;
+          behind = subst (λ (b : ℕ). drop (recordLength b) (put r s) ≡ drop (recordLength b) s) (same ∙ blocks-is s) (put-behind r (holdable r sr fr) s room);
+        }
 
     pub put-live : Live (put r s)
     put-live =

@@ -36,3 +36,24 @@ pub struct Message {
     pub data: bool,
     pub words: [u32; 8],
 }
+
+// The record's layout: specs/RecordLayout.antt has the same numbers under the same names, and the contracts tie the two.
+pub const HEADER_SIZE: usize = 32;
+
+pub const MESSAGE_SIZE: usize = 40;
+
+pub const BLOCKS_OFFSET: usize = 2592;
+
+pub const BLOCK_SIZE: usize = 632;
+
+pub const OWNER_OFFSET: usize = 16;
+
+pub const VALID_OFFSET: usize = 32;
+
+pub const CLAIMS_OFFSET: usize = 80;
+// In the claims.
+pub const WAITING_OFFSET: usize = 32;
+
+pub const WORDS_OFFSET: usize = 120;
+
+pub const WORDS_SIZE: usize = 32;

@@ -5,11 +5,11 @@ ghost use Rattle.spec_rack.specs.RecordLayout.{get};
 ghost use Rattle.spec_rack.specs.Needs.{Whole, Ready};
 ghost use Rattle.spec_rack.specs.Apply.{replyTo, leftBy};
 use base::wide;
-use spec_wire::Step;
 use spec_rack::Answer;
 use spec_rack::Reply;
 use spec_wire::Check;
 use spec_wire::Refusal;
+use spec_wire::Step;
 
 pub fn load(rec: &[u8], component: u8, block: u8, word: u8) -> Reply
     requires { ⌜ Ready (now rec) ⌝ }

@@ -1,16 +1,20 @@
 // What the lines of the refusal table ask of the record. The laws of this crate say what each verdict tells, kind by kind.
 ghost use mathlib.Core.Path.{_≡_};
-ghost use mathlib.Core.Bool.{_||_};
+ghost use mathlib.Core.Bool.{_||_, not};
 ghost use Prim.Native.Nat.{_+_, _*_, _<_};
 ghost use lib.Dec.{eqb, ltb};
 ghost use lib.ListN.{getD};
+ghost use Rattle.spec_rack.specs.Boards.{empty};
 ghost use Rattle.spec_rack.specs.Claims.{waiting};
 ghost use Rattle.spec_rack.specs.Rack.{claimsAt};
 ghost use Rattle.spec_rack.specs.Rules.{offRack, meshFull};
-ghost use Rattle.spec_rack.specs.RecordLayout.{get};
+ghost use Rattle.spec_rack.specs.RecordLayout.{blockOffset, claimsOffset, get};
 ghost use Rattle.spec_rack.specs.Needs.{Whole};
 ghost use Rattle.step_checks.specs.Verdict.{passed, toldBy};
 use spec_rack::Answer;
+use spec_rack::BLOCK_SIZE;
+use spec_rack::BLOCKS_OFFSET;
+use spec_rack::CLAIMS_OFFSET;
 use spec_rack::Reply;
 use spec_wire::Check;
 
@@ -45,9 +49,9 @@ pub fn at_home(component: u8) -> bool
 
 // Where the sets of boards of a block stand.
 pub fn claims_place(block: u8) -> usize
-    ensures { λ r. ⌜ r ≡ 2996 + 592 * block ⌝ }
+    ensures { λ r. ⌜ r ≡ blockOffset block + claimsOffset ⌝ }
 {
-    2996 + 592 * (block as usize)
+    BLOCKS_OFFSET + BLOCK_SIZE * (block as usize) + CLAIMS_OFFSET
 }
 
 // The waiting set of a block.
@@ -56,6 +60,13 @@ pub fn waiting(rec: &[u8], block: u8) -> u16
     ensures { λ r. ⌜ r ≡ waiting (claimsAt (get (now (rec .entry))) block) ⌝ }
 {
     arbiter::claims::waiting_at(rec, claims_place(block))
+}
+
+// Whether the boards that wait for a block stop a component's send of it: any of them does, whatever the component; the active board's own send is stopped too.
+pub fn claimed(boards: u16, component: u8) -> bool
+    ensures { λ r. ⌜ r ≡ not (eqb boards empty) ⌝ }
+{
+    boards != 0
 }
 
 // Whether 64 messages are in flight.

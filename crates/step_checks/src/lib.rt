@@ -1,3 +1,3 @@
-// 
-pub mod tokens;
+//
 pub mod checks;
+pub mod tokens;

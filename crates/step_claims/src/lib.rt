@@ -4,11 +4,11 @@ ghost use Rattle.spec_rack.specs.Rules.{check};
 ghost use Rattle.spec_rack.specs.RecordLayout.{get};
 ghost use Rattle.spec_rack.specs.Needs.{Whole, Ready};
 ghost use Rattle.spec_rack.specs.Apply.{replyTo, leftBy};
-use spec_wire::Step;
 use spec_rack::Answer;
 use spec_rack::Reply;
 use spec_wire::Check;
 use spec_wire::Refusal;
+use spec_wire::Step;
 
 fn raise_check(rec: &[u8], component: u8, block: u8) -> Check
     requires { ⌜ Whole (now rec) ⌝ }
@@ -57,7 +57,12 @@ pub fn lower(rec: &mut [u8], component: u8, block: u8) -> Reply
     let verdict = lower_check(rec, component, block);
     if step_checks::checks::passes(verdict) {
         let boards = rec[0];
-        arbiter::change::lower_at(rec, step_checks::checks::claims_place(block), boards, component);
+        arbiter::change::lower_at(
+            rec,
+            step_checks::checks::claims_place(block),
+            boards,
+            component,
+        );
         return Reply::Accepted(Answer::Done);
     }
     step_checks::checks::told(verdict)

@@ -57,12 +57,13 @@ module _ (s : List ℕ) (bytes : Bytes s) (i : ℕ) (pre : Ready s × (check (ge
   sum-fits =
       omega (arith, cell-few (get s) sound (m .block) (m .target) inB inN, message-few (get s) sound i inMesh, ap (λ (y : Message). y .plain) e)
 
-  module _ (s₁ : List ℕ) (is : s₁ ≡ put (withMesh (get s) (removed (get s .mesh) i)) s) where
-    fewer : length (removed (get s .mesh) i) ≤ 64
-    fewer = omega (arith, length-removed (get s .mesh) i, mesh-is s, pre .0 .whole .messages)
+  -- whichever message was removed, no cell changed
+  module _ (j : ℕ) (s₁ : List ℕ) (is : s₁ ≡ put (withMesh (get s) (removed (get s .mesh) j)) s) where
+    fewer : length (removed (get s .mesh) j) ≤ 64
+    fewer = omega (arith, length-removed (get s .mesh) j, mesh-is s, pre .0 .whole .messages)
 
-    rest : All MessageFits (removed (get s .mesh) i)
-    rest = all-removed MessageFits (get s .mesh) i (fits s bytes (pre .0) .mesh-fits)
+    rest : All MessageFits (removed (get s .mesh) j)
+    rest = all-removed MessageFits (get s .mesh) j (fits s bytes (pre .0) .mesh-fits)
 
     pub delivered-in-cell : InCell s₁ (m .block) (m .target)
     delivered-in-cell = mesh-in-cell s bytes (pre .0) _ fewer rest s₁ is (m .block) (m .target) known
@@ -78,17 +79,19 @@ module _ (s : List ℕ) (bytes : Bytes s) (i : ℕ) (pre : Ready s × (check (ge
       pub delivered-fits : marks .plain + m .plain < 256
       delivered-fits = omega (arith, sum-fits, told-before .plain)
 
+  module _ (s₁ : List ℕ) (is : s₁ ≡ put (withMesh (get s) (removed (get s .mesh) i)) s) where
+    module _ (marks : Marks) (told : MarksOf (cellAt (get s₁) (m .block) (m .target)) marks) where
       module _ (h : Marks) (adds : (y : Cell) → MarksOf y marks → MarksOf (more y m) h) (s₂ : List ℕ) where
         cell-written : (ws : List ℕ) → ws ≡ cond (m .«data») (m .words) (target .words)
             → s₂ ≡ put (onCell (get s₁) (m .block) (m .target) (filled h ws)) s₁ → s₂ ≡ put (delivered (get s) i) s
         unfolding delivered
         cell-written ws ew is′ =
-            mesh-cell s bytes (pre .0) _ fewer rest s₁ is (m .block) (m .target) known (more target m) (
+            mesh-cell s bytes (pre .0) _ (fewer i s₁ is) (rest i s₁ is) s₁ is (m .block) (m .target) known (more target m) (
               (sum-fits, (tt, tt)),
-              cond-of WordsFit (m .«data») (m .words) (target .words) (subst MessageFits (sym e) (message-fits (get s) (fits s bytes (pre .0)) i inMesh) .1 .1)
+              cond-of WordsFit (m .«data») (m .words) (target .words) (subst MessageFits (sym e) (message-fits (get s) (fits s bytes (pre .0)) i inMesh) .1)
                   (cell-fits (get s) (fits s bytes (pre .0)) (m .block) inB (m .target) inN .1),
             )
-            s₂ (is′ ∙ ap (λ (y : Cell). put (onCell (get s₁) (m .block) (m .target) y) s₁) (filled-is (more target m) h ws (adds target told-before) ew))
+            s₂ (is′ ∙ ap (λ (y : Cell). put (onCell (get s₁) (m .block) (m .target) y) s₁) (filled-is (more target m) h ws (adds target (told-before i s₁ is marks told)) ew))
             ∙ ap (λ (y : Message). put (withCell (get s) (y .block) (y .target) (more (cellAt (get s) (y .block) (y .target)) y) (removed (get s .mesh) i)) s) e
 
         pub delivered-data : m .«data» ≡ true → s₂ ≡ put (onCell (get s₁) (m .block) (m .target) (filled h (m .words))) s₁ → s₂ ≡ put (delivered (get s) i) s
@@ -96,4 +99,4 @@ module _ (s : List ℕ) (bytes : Bytes s) (i : ℕ) (pre : Ready s × (check (ge
 
         pub delivered-bare : m .«data» ≡ false → s₂ ≡ put (onCell (get s₁) (m .block) (m .target) (marked (cellAt (get s₁) (m .block) (m .target)) h)) s₁
             → s₂ ≡ put (delivered (get s) i) s
-        delivered-bare d = cell-written (cellAt (get s₁) (m .block) (m .target) .words) (rw d (ap (λ (y : Cell). y .words) same-cell))
+        delivered-bare d = cell-written (cellAt (get s₁) (m .block) (m .target) .words) (rw d (ap (λ (y : Cell). y .words) (same-cell i s₁ is)))

@@ -5,10 +5,10 @@ ghost use Rattle.spec_rack.specs.Rules.{check, after};
 ghost use Rattle.spec_rack.specs.RecordLayout.{get, put};
 ghost use Rattle.spec_rack.specs.Needs.{Ready};
 ghost use Rattle.spec_rack.specs.Apply.{replyTo, leftBy};
-use spec_wire::Step;
 use spec_rack::Answer;
 use spec_rack::Reply;
 use spec_wire::Refusal;
+use spec_wire::Step;
 
 // Takes the message out of the mesh and adds its tokens, and its words where it has data, to the target.
 fn hand_over(rec: &mut [u8], position: u8)

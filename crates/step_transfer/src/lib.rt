@@ -1,4 +1,4 @@
-// 
-pub mod send_check;
-pub mod send;
+//
 pub mod deliver;
+pub mod send;
+pub mod send_check;

@@ -1,7 +1,7 @@
 // Step records: the reader. specs/Reader.antt says what it gives for every bytes.
 pub mod body;
-pub mod message_body;
 pub mod frames;
+pub mod message_body;
 
 ghost use mathlib.Core.Path.{_≡_};
 ghost use Rattle.spec_wire.specs.Body.{readBody};

@@ -29,7 +29,7 @@ part-step-start c = search needs
 
 part-step-end : tie.Need-part-step-end Inv-loop μ-loop
 part-step-end c =
-    cut-inside (c .before .before .before .before .before .before .before .args .list .now) (c .before .before .before .loop .place) (c .before .cut-end .result) (c .before .before .loop-test .taken) (c .before .cut-end .ensures) .1 .0
+    omega (arith, c .before .before .loop-test .taken, cut-inside (c .before .before .before .before .before .before .before .args .list .now) (c .before .before .before .loop .place) (c .before .cut-end .result) (c .before .before .loop-test .taken) (c .before .cut-end .ensures) .1 .0)
 
 step-requires : tie.Need-step-requires Inv-loop μ-loop
 step-requires c κs = search needs

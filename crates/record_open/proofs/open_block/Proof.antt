@@ -1,68 +1,100 @@
--- `open_block` meets its contract: what it stores is what the layout writes of a fresh block.
 use native.Mathlib.Omega.{arith}
-use lib.ListN.{length-set}
-use Rattle.record_open.proofs.FreshBytes.{block-is}
+use mathlib.Core.Path.{sym, ap, _∙_}
+use mathlib.Core.List.{List}
+use Prim.Native.Nat.{ℕ, _+_, _*_, _-_}
+use lib.ListN.{set, length-set, replicate}
+use Rattle.spec_base.specs.Layout.{over}
+use Rattle.record_open.proofs.FreshBytes.{three-kept, empty-is, fresh-is}
 use borrow.Author.Needs.{needs}
 use Rattle.record_open.proofs.open_block.Statement.{statement}
 use Rattle.record_open.proofs.open_block.Tie as tie
+use Rattle.record_open.proofs.open_block.Reads as reads
+use Rattle.record_open.proofs.open_block.Lts as lts
+use Rattle.record_open.proofs.clear.Reads as clear-reads
 
-add-components : tie.Need-add-components
-add-components c = search needs
+-- src/lib.rt:38:31
+add-words : tie.Need-add-words
+add-words c = search needs
 
-mul-cells : tie.Need-mul-cells
-mul-cells c = search needs
+-- src/lib.rt:38:17
+mul-words : tie.Need-mul-words
+mul-words c = search needs
 
-mul-sets : tie.Need-mul-sets
-mul-sets c = search needs
+-- src/lib.rt:39:16
+add-sets : tie.Need-add-sets
+add-sets c = search needs
 
+-- src/lib.rt:40:18
 add-behind : tie.Need-add-behind
 add-behind c = search needs
 
+-- src/lib.rt:41:5
 clear-requires : tie.Need-clear-requires
 clear-requires c κs = search needs
 
+-- src/lib.rt:42:5
+clear-requires-2 : tie.Need-clear-requires-2
+clear-requires-2 c κs = search needs
+
+-- src/lib.rt:43:5
+clear-requires-3 : tie.Need-clear-requires-3
+clear-requires-3 c κs = search needs
+
+-- src/lib.rt:44:16
 sub-rec : tie.Need-sub-rec
 sub-rec c = search needs
 
+-- src/lib.rt:44:15
 cast-rec : tie.Need-cast-rec
 cast-rec c = search needs
 
+-- src/lib.rt:44:5
 slice-write-rec : tie.Need-slice-write-rec
 slice-write-rec c = search needs
 
+-- src/lib.rt:45:9
 add-rec : tie.Need-add-rec
 add-rec c = search needs
 
+-- src/lib.rt:45:5
 slice-write-rec-2 : tie.Need-slice-write-rec-2
-slice-write-rec-2 c = simp length-set (omega arith)
+slice-write-rec-2 c = simp length-set (omega (arith, c .before .before .clear3 .kept .0, c .before .before .before .before .before .before .clear2 .kept .0, c .before .before .before .before .before .before .before .before .before .before .clear .kept .0))
 
+-- src/lib.rt:46:9
 add-rec-2 : tie.Need-add-rec-2
 add-rec-2 c = search needs
 
+-- src/lib.rt:46:5
 slice-write-rec-3 : tie.Need-slice-write-rec-3
-slice-write-rec-3 c = simp length-set (omega arith)
+slice-write-rec-3 c = simp length-set (omega (arith, c .before .before .clear3 .kept .0, c .before .before .before .before .before .before .clear2 .kept .0, c .before .before .before .before .before .before .before .before .before .before .clear .kept .0))
 
-clear-requires-2 : tie.Need-clear-requires-2
-clear-requires-2 c κs = simp length-set (omega arith)
-
+-- src/lib.rt:34:1
 same-length : tie.Need-same-length
-same-length c = omega (arith, simp length-set at (c .before .before .clear2 .kept .0))
+same-length c = let a = c .before .before .before .before .before .before .before .before .before .before .before .before .before .args in
+    three-kept (c .before .before .clear3 .last .0) (a .at) (a .at + 16) (a .at + 32) _ _ _ ∙ c .before .before .clear3 .kept .0 ∙ c .before .before .before .before .before .before .clear2 .kept .0 ∙ c .before .before .before .before .before .before .before .before .before .before .clear .kept .0
 
+-- src/lib.rt:34:1
 returns : tie.Need-returns
-returns c = let s = c .before .before .before .before .before .before .before .before .before in
-    block-is (s .args .boards) (s .args .tokens) (omega arith) (omega arith) (s .args .at) (s .args .rec .now) (s .pre .3)
-    (c .before .before .before .before .before .before .clear .last .0) (c .before .before .clear2 .last .0)
-    (c .before .before .before .before .before .before .clear .ensures) (c .before .before .clear2 .ensures)
+returns c = let s = c .before .before .before .before .before .before .before .before .before .before .before .before .before in
+    let n = s .args .boards in
+    let p = s .args .at in
+    ap (λ (r : List ℕ). set (set (set r p (s .args .tokens - 1)) (p + 16) 1) (p + 32) 1)
+    (c .before .before .clear3 .ensures
+    ∙ ap (over (p + 120) (32 * (n + 1)) (λ r. replicate (32 * (n + 1)) 0)) (c .before .before .before .before .before .before .clear2 .ensures ∙ ap (over (p + 80) 34 (λ r. replicate 34 0)) (c .before .before .before .before .before .before .before .before .before .before .clear .ensures))
+    ∙ sym (empty-is n (omega (arith, s .pre .0)) p (s .args .rec .now) (s .pre .3)))
+    ∙ sym (fresh-is n (omega (arith, s .pre .0)) p (s .args .rec .now) (s .pre .3) (λ k. c .before .before .before .before .before .before .before .before .before .before .before .before .slice-known .given k .fits) (s .args .tokens) (omega (arith, s .pre .2)))
 
 pub open-block-spec : {M : Type 1} → statement M
 open-block-spec =
     tie.close
     (tie.spec
-    add-components
-    mul-cells
-    mul-sets
+    add-words
+    mul-words
+    add-sets
     add-behind
     clear-requires
+    clear-requires-2
+    clear-requires-3
     sub-rec
     cast-rec
     slice-write-rec
@@ -70,6 +102,5 @@ open-block-spec =
     slice-write-rec-2
     add-rec-2
     slice-write-rec-3
-    clear-requires-2
     same-length
     returns)

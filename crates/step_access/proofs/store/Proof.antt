@@ -1,4 +1,5 @@
 -- `access::store` meets its contract: the table has a known component, block and word.
+use native.Mathlib.Omega.{arith}
 use mathlib.Core.Path.{refl}
 use borrow.Author.Needs.{needs}
 use Rattle.spec_rack.specs.Rules.{answer, after}
@@ -17,8 +18,10 @@ set-word-requires : tie.Need-set-word-requires
 set-word-requires c κs =
     let k = c .before .before .before in
     let s = k .before .before .before in
+    let known =
     store-passed (s .args .rec .now) (s .pre) (s .args .component) (s .args .block) (s .args .word) (s .args .value)
-    (passes _ _ _ (k .store-check .ensures) (c .before .before .passes .ensures) (c .before .if1 .taken))
+    (passes _ _ _ (k .store-check .ensures) (c .before .before .passes .ensures) (c .before .if1 .taken)) in
+    (record { whole = known .0 .whole; block = known .0 .block; component = omega (arith, known .0 .component) }, known .1)
 
 same-length : tie.Need-same-length
 same-length c = search needs

@@ -6,7 +6,7 @@ use native.Mathlib.Omega.{arith}
 use borrow.Author.Needs.{needs}
 use Rattle.spec_rack.specs.Claims.{lowered}
 use Rattle.spec_rack.specs.Rules.{answer, after}
-use Rattle.step_checks.proofs.Claimed.{claims-room, claims-written}
+use Rattle.step_checks.proofs.Claimed.{claims-room, claims-form, claims-written}
 use Rattle.step_checks.proofs.Passed.{lower-passed}
 use Rattle.step_checks.proofs.Made.{passes, made, kept}
 use Rattle.step_claims.proofs.lower.Statement.{statement}
@@ -29,8 +29,13 @@ lower-at-requires c κs =
     let way = c .before .before .before in
     let k = way .before .before in
     let s = k .before .before .before in
-    let known = lower-passed (s .args .rec .now) (s .pre) (s .args .component) (s .args .block) (passes _ _ _ (k .lower-check .ensures) (way .before .passes .ensures) (way .if1 .taken)) in
-    (claims-room (s .args .rec .now) (s .pre .whole) (s .args .block) (known .0 .block) (c .claims-place .result) (c .claims-place .ensures), omega (arith, known), omega (arith, known), omega (arith, s .pre .whole .boards))
+    let known = lower-passed (s .args .rec .now) (s .pre) (s .args .component) (s .args .block) (passes _ _ _ (k .lower-check .ensures) (way .before .passes .ensures) (way .if1 .taken)) in (
+      claims-room (s .args .rec .now) (s .pre .whole) (s .args .block) (known .0 .block) (c .claims-place .result) (c .claims-place .ensures),
+      omega (arith, known),
+      omega (arith, known),
+      omega (arith, s .pre .whole .boards),
+      claims-form (s .args .rec .now) (s .pre .whole) (s .args .block) (known .0 .block) (c .claims-place .result) (c .claims-place .ensures) (λ i. k .before .before .slice-known .given i .fits),
+    )
 
 same-length : tie.Need-same-length
 same-length c = search needs

@@ -2,6 +2,7 @@
 use mathlib.Core.Path.{_≡_, refl, sym, ap, _∙_}
 use Prim.Native.Nat.{ℕ, _+_, _≤_}
 use native.Mathlib.Omega.{arith}
+use native.Mathlib.Decide.{decLe}
 use mathlib.Core.List.{List}
 use lib.ListN.{length, take, drop}
 use lib.Seq.{length-take-le, take-at}
@@ -13,7 +14,7 @@ use Rattle.spec_wire.specs.Reader.{readRecord}
 use Rattle.spec_base.specs.Placing.{place}
 use Rattle.spec_wire.specs.Writer.{written, placed}
 use Rattle.spec_base.proofs.Placing.{length-place}
-use Rattle.wire_writer.proofs.Writing.{written-room, placed-room}
+use Rattle.wire_writer.proofs.Writing.{written-room, written-short, placed-room}
 use Rattle.spec_wire.proofs.Machine.{step-fits}
 use Rattle.wire_writer.proofs.Writing.{refused-count, written-count}
 use Rattle.spec_wire.proofs.Sizes.{record-length}
@@ -22,23 +23,28 @@ use borrow.Author.Needs.{needs}
 use Rattle.wire.proofs.written_and_read.Statement.{statement}
 use Rattle.wire.proofs.written_and_read.Tie as tie
 
--- the buffer of 27 places has room for every record
-module _ (s : Step) (out : List ℕ) (room : length out ≡ 27) where
-  fits : 0 + length (stepBytes s) ≤ length out
-  fits = omega (arith, record-length s)
-
-  never-short : {r : Refusal} → Refused r ≡ written (stepBytes s) 0 out → ⊥
-  never-short e = refused-count (e ∙ sym (written-room (stepBytes s) 0 out fits))
+module _ (s : Step) (out : List ℕ) where
+  -- a buffer of 27 places has room for every record
+  never-short : length out ≡ 27 → {r : Refusal} → Refused r ≡ written (stepBytes s) 0 out → ⊥
+  never-short room e = refused-count (e ∙ sym (written-room (stepBytes s) 0 out (omega (arith, record-length s))))
 
   module _ (n : ℕ) (after : List ℕ) (counted : Count n ≡ written (stepBytes s) 0 out) (said : after ≡ placed (stepBytes s) 0 out) where
     count : n ≡ length (stepBytes s)
     count = written-count (stepBytes s) 0 out n counted
 
+    -- whatever the buffer: what was counted had room
+    fits : 0 + length (stepBytes s) ≤ length out
+    fits = by-room (decLe (0 + length (stepBytes s)) (length out))
+      where
+        by-room : Dec (0 + length (stepBytes s) ≤ length out) → 0 + length (stepBytes s) ≤ length out
+        by-room (yes h) = h
+        by-room (no h) = absurd (refused-count (written-short (stepBytes s) 0 out (omega (arith, h)) ∙ sym counted))
+
     there : after ≡ place 0 (stepBytes s) out
     there = said ∙ sym (placed-room (stepBytes s) 0 out fits)
 
     within : n ≤ length after
-    within = omega (arith, count, record-length s, ap length there, length-place 0 (stepBytes s) out fits)
+    within = omega (arith, fits, count, ap length there, length-place 0 (stepBytes s) out fits)
 
     taken : take n after ≡ stepBytes s
     unfolding place
@@ -56,12 +62,12 @@ enum-known-n c = search needs
 array-share-prefix-out : tie.Need-array-share-prefix-out
 array-share-prefix-out c =
     let wrote = c .before .before .before .before .write .ensures in
-    within (c .before .before .before .before .before .before .args .step) _ refl _ _ (sym (c .before .n .given .1) ∙ wrote .0) (wrote .1)
+    within (c .before .before .before .before .before .before .args .step) _ _ _ (sym (c .before .n .given .1) ∙ wrote .0) (wrote .1)
 
 slice-aggregate-read : tie.Need-slice-aggregate-read
 slice-aggregate-read c =
     let wrote = c .before .before .before .before .before .write .ensures in
-    sym (length-take-le _ _ (within (c .before .before .before .before .before .before .before .args .step) _ refl _ _ (sym (c .before .before .n .given .1) ∙ wrote .0) (wrote .1)))
+    sym (length-take-le _ _ (within (c .before .before .before .before .before .before .before .args .step) _ _ _ (sym (c .before .before .n .given .1) ∙ wrote .0) (wrote .1)))
 
 read-requires : tie.Need-read-requires
 read-requires c κs = search needs
@@ -73,7 +79,7 @@ returns : tie.Need-returns
 returns c =
     let wrote = c .before .before .before .before .before .before .write .ensures in
     let start = c .before .before .before .before .before .before .before .before in
-    let back = taken (start .args .step) _ refl _ _ (sym (c .before .before .before .n .given .1) ∙ wrote .0) (wrote .1) in
+    let back = taken (start .args .step) _ _ _ (sym (c .before .before .before .n .given .1) ∙ wrote .0) (wrote .1) in
     c .read .ensures ∙ ap readRecord back ∙ read-written (start .args .step) (step-fits (start .args .step) _ (start .good .0))
 
 returns-2 : tie.Need-returns-2

@@ -1,30 +1,30 @@
--- `claims_change::lower_at` meets its contract: after i turns the board has left the first i sets.
+-- `change::lower_at` meets its contract: after i turns the board has left the first i barring sets; then the waiting set.
 use Rattle.arbiter.proofs.Stored.{Lowering, lower-none, lower-more, lower-is}
 use mathlib.Core.Path.{_≡_, subst}
-use Prim.Native.Nat.{ℕ, _+_, _-_, _≤_}
+use Prim.Native.Nat.{ℕ, _-_, _≤_}
 use native.Mathlib.Omega.{arith}
 use borrow.Author.Needs.{needs}
 use Rattle.arbiter.proofs.change.lower_at.Statement.{statement}
 use Rattle.arbiter.proofs.change.lower_at.Tie as tie
 
 abbrev Inv-loop : tie.InvT-loop
-Inv-loop rec₀ at boards board count i₀ rec i = (i ≤ boards + 1) × Lowering boards at rec₀ board i rec
+Inv-loop rec₀ at boards board count i₀ rec i = (i ≤ boards) × Lowering boards at rec₀ board i rec
 
 abbrev μ-loop : tie.MeasureT-loop
-μ-loop rec₀ at boards board count i₀ rec i = boards + 1 - i
-
-add-count : tie.Need-add-count Inv-loop μ-loop
-add-count c = search needs
+μ-loop rec₀ at boards board count i₀ rec i = boards - i
 
 loop-holds : tie.Need-loop-holds Inv-loop μ-loop
 loop-holds c = let s = c .before in
-    (search needs, lower-none (s .args .boards) (s .args .at) (s .pre .3) (s .args .rec .now) (λ k. c .slice-known .given k .fits) (s .pre .0) (s .args .board))
+    (search needs, lower-none (s .args .boards) (s .args .at) (s .pre .3) (s .args .rec .now) (λ k. c .slice-known .given k .fits) (s .pre .0) (s .pre .4) (s .args .board))
+
+add-place : tie.Need-add-place Inv-loop μ-loop
+add-place c = search needs
 
 mul-place : tie.Need-mul-place Inv-loop μ-loop
 mul-place c = search needs
 
-add-place : tie.Need-add-place Inv-loop μ-loop
-add-place c = search needs
+add-place-2 : tie.Need-add-place-2 Inv-loop μ-loop
+add-place-2 c = search needs
 
 read-set-requires : tie.Need-read-set-requires Inv-loop μ-loop
 read-set-requires c κs = search needs
@@ -45,12 +45,24 @@ loop-again : tie.Need-loop-again Inv-loop μ-loop
 loop-again c = let s = c .before .before .before .before .before .before .before .before .before .before in
     let l = c .before .before .before .before .before .before .before .before .loop in (
       search needs,
-      lower-more (s .args .boards) (s .args .at) (s .pre .3) (s .args .rec .now) (λ k. c .before .before .before .before .before .before .before .before .before .slice-known .given k .fits) (s .pre .0) (s .args .board) (l .i) _ _ _ _ (omega arith) (l .inv .1)
+      lower-more (s .args .boards) (s .args .at) (s .pre .3) (s .args .rec .now) (λ k. c .before .before .before .before .before .before .before .before .before .slice-known .given k .fits) (s .pre .0) (s .pre .4) (s .args .board) (l .i) _ _ _ _ (omega arith) (l .inv .1)
           (c .before .before .before .before .before .read-set .ensures) (c .before .before .before .before .remove .ensures) (search needs) (c .before .before .write-set .ensures),
     )
 
+add-waiting : tie.Need-add-waiting Inv-loop μ-loop
+add-waiting c = search needs
+
 read-set-requires-2 : tie.Need-read-set-requires-2 Inv-loop μ-loop
 read-set-requires-2 c κs = search needs
+
+remove-requires-2 : tie.Need-remove-requires-2 Inv-loop μ-loop
+remove-requires-2 c κs = search needs
+
+write-set-requires-2 : tie.Need-write-set-requires-2 Inv-loop μ-loop
+write-set-requires-2 c κs = search needs
+
+remaining-requires : tie.Need-remaining-requires Inv-loop μ-loop
+remaining-requires c κs = search needs
 
 mul-own : tie.Need-mul-own Inv-loop μ-loop
 mul-own c = search needs
@@ -58,19 +70,26 @@ mul-own c = search needs
 add-own : tie.Need-add-own Inv-loop μ-loop
 add-own c = search needs
 
-write-set-requires-2 : tie.Need-write-set-requires-2 Inv-loop μ-loop
-write-set-requires-2 c κs = search needs
+write-set-requires-3 : tie.Need-write-set-requires-3 Inv-loop μ-loop
+write-set-requires-3 c κs = search needs
 
 same-length : tie.Need-same-length Inv-loop μ-loop
 same-length c = search needs
 
 returns : tie.Need-returns Inv-loop μ-loop
-returns c = let s = c .before .before .before .before .before .before .before .before .before in
-    let l = c .before .before .before .before .before .before .before .loop in
-    let all : l .i ≡ s .args .boards + 1 = omega arith in
-    lower-is (s .args .boards) (s .args .at) (s .pre .3) (s .args .rec .now) (λ k. c .before .before .before .before .before .before .before .before .slice-known .given k .fits) (s .pre .0) (s .args .board) _ _ _ (s .pre .1) (s .pre .2)
-    (subst (λ (k : ℕ). Lowering (s .args .boards) (s .args .at) (s .args .rec .now) (s .args .board) k (l .rec)) all (l .inv .1))
-    (c .before .before .before .before .read-set2 .ensures) (search needs) (c .before .before .write-set2 .ensures)
+returns c =
+    let own = c .before .before in
+    let rest = own .before .before in
+    let stored = rest .before .before .before in
+    let removed = stored .before .before in
+    let read = removed .before in
+    let l = read .before .before .before in
+    let known = l .before in
+    let s = known .before in
+    let all : l .loop .i ≡ s .args .boards = omega arith in
+    lower-is (s .args .boards) (s .args .at) (s .pre .3) (s .args .rec .now) (λ k. known .slice-known .given k .fits) (s .pre .0) (s .pre .4) (s .args .board) _ _ _ _ _ _ (s .pre .1) (s .pre .2)
+    (subst (λ (k : ℕ). Lowering (s .args .boards) (s .args .at) (s .args .rec .now) (s .args .board) k (l .loop .rec)) all (l .loop .inv .1))
+    (read .read-set2 .ensures) (removed .remove2 .ensures) (search needs) (rest .remaining .ensures) (stored .write-set2 .ensures) (own .write-set3 .ensures)
 
 pub lower-at-spec : {M : Type 1} → statement M
 lower-at-spec =
@@ -78,19 +97,23 @@ lower-at-spec =
     (tie.spec
     Inv-loop
     μ-loop
-    add-count
     loop-holds
-    mul-place
     add-place
+    mul-place
+    add-place-2
     read-set-requires
     remove-requires
     write-set-requires
     add-i
     loop-less
     loop-again
+    add-waiting
     read-set-requires-2
+    remove-requires-2
+    write-set-requires-2
+    remaining-requires
     mul-own
     add-own
-    write-set-requires-2
+    write-set-requires-3
     same-length
     returns)

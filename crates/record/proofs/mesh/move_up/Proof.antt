@@ -1,4 +1,4 @@
--- `mesh::move_up` meets its contract. The invariant: the first i bytes are those from 38 places further on.
+-- `mesh::move_up` meets its contract. The invariant: the first i bytes are those from 40 places further on.
 use borrow.Author.Needs.{needs}
 use Rattle.record.proofs.Leaves.{moved, moved-none, moved-more}
 use mathlib.Core.Path.{_≡_, refl, ap, _∙_}
@@ -44,8 +44,8 @@ loop-again c = let a = c .before .before .before .args in
     let l = c .before .before .loop in (
       search needs,
       (
-        length-set (l .s) (a .at + l .i) (getD (l .s) (a .at + 38 + l .i) 0) ∙ l .inv .1 .0,
-        ap (λ (t : List ℕ). set t (a .at + l .i) (getD t (a .at + 38 + l .i) 0)) (l .inv .1 .1) ∙ moved-more (a .s .now) (a .at) (l .i) (search needs),
+        length-set (l .s) (a .at + l .i) _ ∙ l .inv .1 .0,
+        ap (λ (t : List ℕ). set t (a .at + l .i) (getD t (a .at + 40 + l .i) 0)) (l .inv .1 .1) ∙ moved-more (a .s .now) (a .at) (l .i) (search needs),
       ),
     )
 

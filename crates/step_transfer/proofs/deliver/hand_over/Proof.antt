@@ -23,7 +23,7 @@ marks-of-requires c κs =
     let found = gone .before .before in
     let s = found .before .before .before in
     delivered-in-cell (s .args .rec .now) (λ k. found .before .before .slice-known .given k .fits) (s .args .position) (s .pre) (found .message-at .result) (found .message-at .ensures)
-    (gone .remove .last .0) (gone .remove .ensures)
+    _ (gone .remove .last .0) (gone .remove .ensures)
 
 more-requires : tie.Need-more-requires
 more-requires c κs =
@@ -31,7 +31,7 @@ more-requires c κs =
     let found = gone .before .before in
     let s = found .before .before .before in
     delivered-fits (s .args .rec .now) (λ k. found .before .before .slice-known .given k .fits) (s .args .position) (s .pre) (found .message-at .result) (found .message-at .ensures)
-    (gone .remove .last .0) (gone .remove .ensures) (c .marks-of .result) (c .marks-of .ensures)
+    _ (gone .remove .last .0) (gone .remove .ensures) (c .marks-of .result) (c .marks-of .ensures)
 
 set-cell-requires : tie.Need-set-cell-requires
 set-cell-requires c κs =
@@ -39,7 +39,7 @@ set-cell-requires c κs =
     let found = gone .before .before in
     let s = found .before .before .before in
     delivered-in-cell (s .args .rec .now) (λ k. found .before .before .slice-known .given k .fits) (s .args .position) (s .pre) (found .message-at .result) (found .message-at .ensures)
-    (gone .remove .last .0) (gone .remove .ensures)
+    _ (gone .remove .last .0) (gone .remove .ensures)
 
 set-marks-requires : tie.Need-set-marks-requires
 set-marks-requires c κs =
@@ -47,7 +47,7 @@ set-marks-requires c κs =
     let found = gone .before .before in
     let s = found .before .before .before in
     delivered-in-cell (s .args .rec .now) (λ k. found .before .before .slice-known .given k .fits) (s .args .position) (s .pre) (found .message-at .result) (found .message-at .ensures)
-    (gone .remove .last .0) (gone .remove .ensures)
+    _ (gone .remove .last .0) (gone .remove .ensures)
 
 same-length : tie.Need-same-length
 same-length c = search needs
