@@ -1,4 +1,4 @@
-pub mod Words
-pub mod ClaimBytes
-pub mod Stored
-pub mod Deciding
+pub mod SetBits
+pub mod SetBytes
+pub mod ClaimsChange
+pub mod ClaimsDecision

@@ -3,10 +3,10 @@ ghost use mathlib.Core.Path.{_≡_};
 ghost use Prim.Native.Nat.{ℕ, _+_, _≤_, _<_};
 ghost use mathlib.Core.Bool.{true};
 ghost use lib.ListN.{length};
-ghost use Rattle.spec_base.specs.Layout.{part};
+ghost use Rattle.spec_base.specs.Layout.{slice};
 ghost use Rattle.spec_rack.specs.Boards.{remove};
 ghost use Rattle.spec_rack.specs.Claims.{raised, lowered};
-ghost use Rattle.spec_rack.specs.ClaimBytes.{claims, claimsAt, putClaims};
+ghost use Rattle.spec_rack.specs.RecordLayout.{claims, claimsAtOffset, putClaims};
 use super::claims::read_set;
 use super::claims::write_set;
 use super::sets;
@@ -15,7 +15,7 @@ use spec_rack::WAITING_OFFSET;
 // The board joins the waiting set.
 pub fn raise_at(rec: &mut [u8], at: usize, board: u8)
     requires { ⌜ (at + 34 ≤ length (now rec)) × (board < 16) ⌝ }
-    ensures { λ r. ⌜ ((n : ℕ) → n < 16 → claims n .formed (part at 34 (now (rec .entry))) ≡ true → now (rec .exit) ≡ putClaims n at (raised (claimsAt n at (now (rec .entry))) board) (now (rec .entry))) ⌝ }
+    ensures { λ r. ⌜ ((n : ℕ) → n < 16 → claims n .wellFormed (slice at 34 (now (rec .entry))) ≡ true → now (rec .exit) ≡ putClaims n at (raised (claimsAtOffset n at (now (rec .entry))) board) (now (rec .entry))) ⌝ }
 {
     let place = at + WAITING_OFFSET;
     let w = read_set(rec, place);
@@ -34,8 +34,8 @@ fn remaining(waiting: u16, board: u8) -> u16
 
 // The board leaves the waiting set and every barring set; its own barring set becomes the waiting set that remains.
 pub fn lower_at(rec: &mut [u8], at: usize, boards: u8, board: u8)
-    requires { ⌜ (at + 34 ≤ length (now rec)) × (1 ≤ board) × (board ≤ boards) × (boards < 16) × (claims boards .formed (part at 34 (now rec)) ≡ true) ⌝ }
-    ensures { λ r. ⌜ now (rec .exit) ≡ putClaims boards at (lowered (claimsAt boards at (now (rec .entry))) board) (now (rec .entry)) ⌝ }
+    requires { ⌜ (at + 34 ≤ length (now rec)) × (1 ≤ board) × (board ≤ boards) × (boards < 16) × (claims boards .wellFormed (slice at 34 (now rec)) ≡ true) ⌝ }
+    ensures { λ r. ⌜ now (rec .exit) ≡ putClaims boards at (lowered (claimsAtOffset boards at (now (rec .entry))) board) (now (rec .entry)) ⌝ }
 {
     let count = boards as usize;
     let mut i = 0;

@@ -7,16 +7,16 @@ ghost use lib.ListN.{length};
 ghost use Rattle.spec_base.specs.Folds.{implies};
 ghost use Rattle.spec_rack.specs.Boards.{member, empty, subset};
 ghost use Rattle.spec_rack.specs.Claims.{soundClaims};
-ghost use Rattle.spec_base.specs.Layout.{part};
-ghost use Rattle.spec_rack.specs.ClaimBytes.{claims, claimsAt};
+ghost use Rattle.spec_base.specs.Layout.{slice};
+ghost use Rattle.spec_rack.specs.RecordLayout.{claims, claimsAtOffset};
 use super::claims::read_set;
 use super::claims::waiting_at;
 use super::sets;
+use base::all_zero;
 use base::both;
-use base::clear;
 
 // Whether a board's barring set lies within the waiting set, and is empty where the board waits.
-fn bars(waiting: u16, board: u8, barring: u16) -> bool
+fn barring_sound(waiting: u16, board: u8, barring: u16) -> bool
     requires { ⌜ board < 16 ⌝ }
     ensures { λ r. ⌜ r ≡ (subset barring waiting && implies (member waiting board) (eqb barring empty)) ⌝ }
 {
@@ -29,7 +29,7 @@ fn bars(waiting: u16, board: u8, barring: u16) -> bool
 // Whether the claims are those of a sound record.
 fn sets_sound(rec: &[u8], at: usize, boards: u8) -> bool
     requires { ⌜ (at + 34 ≤ length (now rec)) × (boards < 16) ⌝ }
-    ensures { λ r. ⌜ r ≡ soundClaims boards (claimsAt boards at (now (rec .entry))) ⌝ }
+    ensures { λ r. ⌜ r ≡ soundClaims boards (claimsAtOffset boards at (now (rec .entry))) ⌝ }
 {
     let w = waiting_at(rec, at);
     if !sets::boards_only(boards, w) {
@@ -39,7 +39,7 @@ fn sets_sound(rec: &[u8], at: usize, boards: u8) -> bool
     while board < boards {
         board += 1;
         let s = read_set(rec, at + 2 * (board as usize));
-        if !bars(w, board, s) {
+        if !barring_sound(w, board, s) {
             return false;
         }
     }
@@ -47,22 +47,25 @@ fn sets_sound(rec: &[u8], at: usize, boards: u8) -> bool
 }
 
 // Whether the places without a board are 0: the first, and those above the last board.
-fn places_clear(rec: &[u8], at: usize, boards: u8) -> bool
+fn unused_sets_zero(rec: &[u8], at: usize, boards: u8) -> bool
     requires { ⌜ (at + 34 ≤ length (now rec)) × (boards < 16) ⌝ }
-    ensures { λ r. ⌜ r ≡ claims boards .formed (part at 34 (now (rec .entry))) ⌝ }
+    ensures { λ r. ⌜ r ≡ claims boards .wellFormed (slice at 34 (now (rec .entry))) ⌝ }
 {
     let used = boards as usize * 2;
     let behind = at + 2 + used;
-    both(clear(rec, at, 2), clear(rec, behind, 30 - used))
+    both(all_zero(rec, at, 2), all_zero(rec, behind, 30 - used))
 }
 
 // Whether the sets are formed and sound. In most blocks no board is barred: then the 32 bytes of the barring sets are 0, and the waiting set alone decides.
 pub fn sound_at(rec: &[u8], at: usize, boards: u8) -> bool
     requires { ⌜ (at + 34 ≤ length (now rec)) × (boards < 16) ⌝ }
-    ensures { λ r. ⌜ r ≡ (claims boards .formed (part at 34 (now (rec .entry))) && soundClaims boards (claimsAt boards at (now (rec .entry)))) ⌝ }
+    ensures { λ r. ⌜ r ≡ (claims boards .wellFormed (slice at 34 (now (rec .entry))) && soundClaims boards (claimsAtOffset boards at (now (rec .entry)))) ⌝ }
 {
-    if clear(rec, at, 32) {
+    if all_zero(rec, at, 32) {
         return sets::boards_only(boards, waiting_at(rec, at));
     }
-    both(places_clear(rec, at, boards), sets_sound(rec, at, boards))
+    both(
+        unused_sets_zero(rec, at, boards),
+        sets_sound(rec, at, boards),
+    )
 }

@@ -20,7 +20,7 @@ pub fn number(bytes: &[u8]) -> u32
 }
 
 // The number that four bytes from a place on make.
-pub fn number_at(bytes: &[u8], at: usize) -> u32
+pub fn u32_at(bytes: &[u8], at: usize) -> u32
     requires { ⌜ at + 4 ≤ length (now bytes) ⌝ }
     ensures { λ r. ⌜ r ≡ number (take 4 (drop at (now (bytes .entry)))) ⌝ }
 {

@@ -1,7 +1,7 @@
 // The refusal table of document 01, the verdict of a run down it, and how an exported entry hands a result over.
 ghost use mathlib.Core.Path.{_≡_};
 ghost use Rattle.spec_wire.specs.Refusals.{number};
-ghost use Rattle.spec_wire.specs.ResultWord.{done, refused};
+ghost use Rattle.spec_wire.specs.Results.{done, refused};
 use spec_wire::Refusal;
 
 // The refusal's number in the table.

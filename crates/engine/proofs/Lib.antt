@@ -1,4 +1,4 @@
 pub mod LetterLaws
-pub mod Whole
+pub mod LetterCell
 pub mod RunLaws
-pub mod Lengths
+pub mod RecordLengths

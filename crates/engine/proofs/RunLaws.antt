@@ -13,26 +13,26 @@ use borrow.Author.Tests.{ltb-true, ltb-false, lt-ltb}
 use Rattle.spec_base.proofs.Tests.{lt-or-le, and-known, and-l, and-r}
 use lib.Seq.{drop-drop, take-suc-set, drop-set-lt, length-take-le}
 use Rattle.spec_base.specs.Folds.{sum}
-use Rattle.spec_rack.specs.RecordStep.{stepTold, stepAfter}
-use Rattle.spec_wire.specs.Frames.{cutAt, cuts}
-use Rattle.wire_reader.proofs.Cutting.{cuts-first, cuts-none, cuts-zero, span}
-use Rattle.spec_rack.specs.RecordSteps.{after, replies}
-use Rattle.spec_rack.specs.ReplyWord.{packedReply}
-use Rattle.spec_rack.specs.Run.{given, Ran}
+use Rattle.spec_rack.specs.Entries.{stepReply, stepAfter}
+use Rattle.spec_wire.specs.Frames.{frameSize, frames}
+use Rattle.wire_reader.proofs.Framing.{cuts-first, cuts-none, cuts-zero, span}
+use Rattle.spec_rack.specs.Lists.{after, replies}
+use Rattle.spec_rack.specs.Results.{packedReply}
+use Rattle.spec_rack.specs.Lists.{framesFrom, RunResult}
 
 module _ (rec₀ list : List ℕ) (at : ℕ) (out₀ : List ℕ) where
   -- the records that are left
   abbrev pub rest : ℕ → ℕ → List (List ℕ)
-  rest place made = cuts (length out₀ - made) (drop place list)
+  rest place made = frames (length out₀ - made) (drop place list)
 
   pub record Going (rec out : List ℕ) (place made : ℕ) : Type 0 where
     pub few : made ≤ length out₀
     pub same : length out ≡ length out₀
-    pub count : length (given list at out₀) ≡ made + length (rest place made)
-    pub buffer : after rec₀ (given list at out₀) ≡ after rec (rest place made)
-    pub replies : map packedReply (replies rec₀ (given list at out₀)) ++ drop (length (given list at out₀)) out₀
+    pub count : length (framesFrom list at out₀) ≡ made + length (rest place made)
+    pub buffer : after rec₀ (framesFrom list at out₀) ≡ after rec (rest place made)
+    pub replies : map packedReply (replies rec₀ (framesFrom list at out₀)) ++ drop (length (framesFrom list at out₀)) out₀
         ≡ take made out ++ (map packedReply (replies rec (rest place made)) ++ drop (made + length (rest place made)) out)
-    pub goes-on : at + sum length (given list at out₀) ≡ place + sum length (rest place made)
+    pub goes-on : at + sum length (framesFrom list at out₀) ≡ place + sum length (rest place made)
 
   pub going-start : Going rec₀ out₀ at 0
   going-start =
@@ -47,21 +47,21 @@ module _ (rec₀ list : List ℕ) (at : ℕ) (out₀ : List ℕ) where
 
   module _ (rec out : List ℕ) (place made : ℕ) (g : Going rec out place made) where
     -- one record more
-    module _ (room : made < length out₀) (some : place < length list) (end : ℕ) (is : end ≡ place + cutAt (drop place list)) where
+    module _ (room : made < length out₀) (some : place < length list) (end : ℕ) (is : end ≡ place + frameSize (drop place list)) where
       rest-first : rest place made ≡ span list place end ∷ rest end (made + 1)
       rest-first =
-          let n : ℕ = cutAt (drop place list) in
+          let n : ℕ = frameSize (drop place list) in
           let k : length out₀ - made ≡ suc (length out₀ - (made + 1)) = omega arith in
           let e : end - place ≡ n = omega arith in
-          ap (λ (j : ℕ). cuts j (drop place list)) k
+          ap (λ (j : ℕ). frames j (drop place list)) k
           ∙ cuts-first (length out₀ - (made + 1)) (drop place list) (simp length-drop (omega arith))
-          ∙ (λ i. take (sym e i) (drop place list) ∷ cuts (length out₀ - (made + 1)) ((drop-drop n place list ∙ ap (λ (j : ℕ). drop j list) (sym is)) i))
+          ∙ (λ i. take (sym e i) (drop place list) ∷ frames (length out₀ - (made + 1)) ((drop-drop n place list ∙ ap (λ (j : ℕ). drop j list) (sym is)) i))
 
       first-length : length (span list place end) ≡ end - place
-      unfolding cutAt
+      unfolding frameSize
       first-length = length-take-le (end - place) (drop place list) (simp length-drop (omega (arith, length-drop place list)))
 
-      pub going-more : (v : ℕ) (rec′ : List ℕ) → v ≡ packedReply (stepTold rec (span list place end)) → rec′ ≡ stepAfter rec (span list place end)
+      pub going-more : (v : ℕ) (rec′ : List ℕ) → v ≡ packedReply (stepReply rec (span list place end)) → rec′ ≡ stepAfter rec (span list place end)
           → Going rec′ (set out made v) end (made + 1)
       unfolding after replies
       going-more v rec′ ev er =
@@ -85,7 +85,7 @@ module _ (rec₀ list : List ℕ) (at : ℕ) (out₀ : List ℕ) where
 
     -- the end
     module _ (none : rest place made ≡ []) where
-      pub going-end : Ran rec₀ list at out₀ made rec place out
+      pub going-end : RunResult rec₀ list at out₀ made rec place out
       unfolding after replies
       going-end =
           record {
@@ -103,7 +103,7 @@ module _ (rec₀ list : List ℕ) (at : ℕ) (out₀ : List ℕ) where
     -- where there is no room for another reply, or no byte is left, no record is left
     pub ended : (both : Bool) → both ≡ (ltb made (length out) && ltb place (length list)) → both ≡ false → rest place made ≡ []
     ended both e h =
-        ⊎-elim (λ (full : length out₀ ≤ made). ap (λ (k : ℕ). cuts k (drop place list)) (let z : length out₀ - made ≡ 0 = omega arith in z) ∙ cuts-zero (drop place list))
+        ⊎-elim (λ (full : length out₀ ≤ made). ap (λ (k : ℕ). frames k (drop place list)) (let z : length out₀ - made ≡ 0 = omega arith in z) ∙ cuts-zero (drop place list))
         (λ (room : made < length out₀). cuts-none (length out₀ - made) (drop place list)
         (let q : length list ≤ place = ltb-false place (length list) (sym (and-known (ltb made (length out)) (ltb place (length list)) (lt-ltb made (length out) (omega (arith, g .same)))) ∙ sym e ∙ h) in
         simp length-drop (omega arith)))

@@ -3,8 +3,8 @@ ghost use mathlib.Core.Path.{_≡_};
 ghost use Prim.Native.Nat.{_+_, _≤_, _<_};
 ghost use lib.ListN.{length, getD};
 ghost use Rattle.spec_rack.specs.Letter.{letterOf};
-ghost use Rattle.spec_rack.specs.RecordLayout.{ownerOffset, validOffset, cellOf};
-ghost use Rattle.spec_rack.specs.RecordLetter.{letterTold};
+ghost use Rattle.spec_rack.specs.RecordLayout.{ownerOffset, validOffset, cellAtOffset};
+ghost use Rattle.spec_rack.specs.Letter.{letterReply};
 use base::either;
 use base::wide;
 use record_soundness::sound;
@@ -27,7 +27,7 @@ fn byte(rec: &[u8], at: usize) -> u32
 // The letter of the component whose plain count stands at a place.
 fn letter_at(rec: &[u8], at: usize) -> Letter
     requires { ⌜ (at + validOffset < length (now rec)) × (getD (now rec) (at + ownerOffset) 0 < 2) ⌝ }
-    ensures { λ r. ⌜ r ≡ letterOf (getD (now (rec .entry)) 2 0) (cellOf (now (rec .entry)) at) ⌝ }
+    ensures { λ r. ⌜ r ≡ letterOf (getD (now (rec .entry)) 2 0) (cellAtOffset (now (rec .entry)) at) ⌝ }
 {
     let owner = byte(rec, at + OWNER_OFFSET);
     if byte(rec, at) + owner == byte(rec, 2) {
@@ -44,7 +44,7 @@ fn letter_at(rec: &[u8], at: usize) -> Letter
 }
 
 pub fn letter(rec: &[u8], component: u32, block: u32) -> Lettered
-    ensures { λ r. ⌜ r ≡ letterTold (now (rec .entry)) component block ⌝ }
+    ensures { λ r. ⌜ r ≡ letterReply (now (rec .entry)) component block ⌝ }
 {
     if !sound(rec) {
         return Lettered::Refused(Refusal::Unsound);

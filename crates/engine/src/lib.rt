@@ -4,11 +4,11 @@ pub mod results;
 pub mod run;
 
 ghost use mathlib.Core.Path.{_≡_};
-ghost use Rattle.spec_rack.specs.Opening.{openTold, openAfter};
-ghost use Rattle.spec_rack.specs.RecordLetter.{letterTold};
-ghost use Rattle.spec_rack.specs.RecordStep.{stepTold, stepAfter};
-ghost use Rattle.spec_rack.specs.ReplyWord.{packedReply, packedLetter, packedLength};
-ghost use Rattle.spec_rack.specs.Run.{Ran};
+ghost use Rattle.spec_rack.specs.Opening.{openReply, openAfter};
+ghost use Rattle.spec_rack.specs.Letter.{letterReply};
+ghost use Rattle.spec_rack.specs.Entries.{stepReply, stepAfter};
+ghost use Rattle.spec_rack.specs.Results.{packedReply, packedLetter, packedLength};
+ghost use Rattle.spec_rack.specs.Lists.{RunResult};
 
 // How many bytes the record of a rack of that many blocks takes.
 #[no_mangle]
@@ -21,7 +21,7 @@ pub extern "C" fn hyl_record_len(blocks: u32) -> u64
 // Opens a record at the front of a buffer.
 #[no_mangle]
 pub extern "C" fn hyl_open(rec: &mut [u8], boards: u32, blocks: u32, tokens: u32) -> u64
-    ensures reply { λ r. ⌜ r ≡ packedReply (openTold boards blocks tokens (now (rec .entry))) ⌝ }
+    ensures reply { λ r. ⌜ r ≡ packedReply (openReply boards blocks tokens (now (rec .entry))) ⌝ }
     ensures buffer { λ r. ⌜ now (rec .exit) ≡ openAfter boards blocks tokens (now (rec .entry)) ⌝ }
 {
     results::reply(record_open::open(rec, boards, blocks, tokens))
@@ -30,7 +30,7 @@ pub extern "C" fn hyl_open(rec: &mut [u8], boards: u32, blocks: u32, tokens: u32
 // Gives the bytes of a step to the record.
 #[no_mangle]
 pub extern "C" fn hyl_step(rec: &mut [u8], step: &[u8]) -> u64
-    ensures reply { λ r. ⌜ r ≡ packedReply (stepTold (now (rec .entry)) (now (step .entry))) ⌝ }
+    ensures reply { λ r. ⌜ r ≡ packedReply (stepReply (now (rec .entry)) (now (step .entry))) ⌝ }
     ensures buffer { λ r. ⌜ now (rec .exit) ≡ stepAfter (now (rec .entry)) (now (step .entry)) ⌝ }
 {
     results::reply(engine_step::step(rec, step))
@@ -39,7 +39,7 @@ pub extern "C" fn hyl_step(rec: &mut [u8], step: &[u8]) -> u64
 // Gives the records of a list from a place on; `at` goes to where the next run starts.
 #[no_mangle]
 pub extern "C" fn hyl_run(rec: &mut [u8], list: &[u8], at: &mut usize, replies: &mut [u64]) -> usize
-    ensures { λ r. ⌜ Ran (now (rec .entry)) (now (list .entry)) (now (at .entry)) (now (replies .entry)) r (now (rec .exit)) (now (at .exit)) (now (replies .exit)) ⌝ }
+    ensures { λ r. ⌜ RunResult (now (rec .entry)) (now (list .entry)) (now (at .entry)) (now (replies .entry)) r (now (rec .exit)) (now (at .exit)) (now (replies .exit)) ⌝ }
 {
     run::run(rec, list, at, replies)
 }
@@ -47,7 +47,7 @@ pub extern "C" fn hyl_run(rec: &mut [u8], list: &[u8], at: &mut usize, replies: 
 // The state letter of a board and a block.
 #[no_mangle]
 pub extern "C" fn hyl_letter(rec: &[u8], component: u32, block: u32) -> u64
-    ensures { λ r. ⌜ r ≡ packedLetter (letterTold (now (rec .entry)) component block) ⌝ }
+    ensures { λ r. ⌜ r ≡ packedLetter (letterReply (now (rec .entry)) component block) ⌝ }
 {
     results::lettered(letter::letter(rec, component, block))
 }

@@ -1,2 +1,2 @@
-pub mod Judging
-pub mod Made
+pub mod StepOnBytes
+pub mod AppliedStep

@@ -19,7 +19,7 @@ use Rattle.spec_wire.proofs.RefusalTable.{number-known}
 use Rattle.spec_rack.specs.declared.Answer.the-variants.{Done, Word}
 use Rattle.spec_rack.specs.declared.Reply.{Reply}
 use Rattle.spec_rack.specs.declared.Reply.the-variants.{Accepted, Refused}
-use Rattle.spec_rack.specs.Line.{digit, digits, decimal, said, line}
+use Rattle.spec_rack.specs.Rackrun.{digit, digits, decimal, replyText, line}
 
 -- ---- lengths
 
@@ -37,15 +37,15 @@ unfolding digits
 length-digits b zero n = refl
 length-digits b (suc k) n = omega (arith, length-append (digits b k (n / b)) (digit (n % b) ∷ []), length-digits b k (n / b))
 
-length-said : (r : Reply) → length (said r) ≤ 9
-unfolding said
+length-said : (r : Reply) → length (replyText r) ≤ 9
+unfolding replyText
 length-said (Accepted Done) = omega arith
 length-said (Accepted (Word w)) = omega (arith, length-digits 16 8 w)
 length-said (Refused r) = omega (arith, length-decimal 1 (number r))
 
 pub length-line : (i : ℕ) (r : Reply) → length (line i r) ≤ 16
 unfolding line
-length-line i r = omega (arith, length-append (decimal 4 i) (32 ∷ (said r ++ 10 ∷ [])), length-append (said r) (10 ∷ []), length-decimal 4 i, length-said r)
+length-line i r = omega (arith, length-append (decimal 4 i) (32 ∷ (replyText r ++ 10 ∷ [])), length-append (replyText r) (10 ∷ []), length-decimal 4 i, length-said r)
 
 -- ---- numbers in decimal, by their counts of digits
 
@@ -75,16 +75,16 @@ decimal-two n l = by (decLe 10 n)
 
 -- ---- what is said
 
-pub said-done : said (Accepted Done) ≡ 111 ∷ digits 32 1 20
-unfolding said digits
+pub said-done : replyText (Accepted Done) ≡ 111 ∷ digits 32 1 20
+unfolding replyText digits
 said-done = refl
 
-pub said-word : (w : ℕ) → said (Accepted (Word w)) ≡ 118 ∷ digits 16 8 w
-unfolding said
+pub said-word : (w : ℕ) → replyText (Accepted (Word w)) ≡ 118 ∷ digits 16 8 w
+unfolding replyText
 said-word w = refl
 
-pub said-refused : (r : Refusal) (n w : ℕ) → n ≡ number r → decimal 4 n ≡ digits 10 w n → said (Refused r) ≡ 114 ∷ digits 10 w n
-unfolding said
+pub said-refused : (r : Refusal) (n w : ℕ) → n ≡ number r → decimal 4 n ≡ digits 10 w n → replyText (Refused r) ≡ 114 ∷ digits 10 w n
+unfolding replyText
 said-refused r n w e d = ap (λ (l : List ℕ). 114 ∷ l) (decimal-two (number r) (omega (arith, number-known r)) ∙ ap (decimal 4) (sym e) ∙ d)
 
 -- ---- digits placed from the last to the first
@@ -135,7 +135,7 @@ digits-ended at base count n end out h =
 -- ---- a line
 
 -- the index and a space, a letter, digits and a newline
-pub line-placed : (at next i w b k n letter : ℕ) (r : Reply) (out out₁ out₂ : List ℕ) → at + 16 ≤ length out → decimal 4 i ≡ digits 10 w i → said r ≡ letter ∷ digits b k n
+pub line-placed : (at next i w b k n letter : ℕ) (r : Reply) (out out₁ out₂ : List ℕ) → at + 16 ≤ length out → decimal 4 i ≡ digits 10 w i → replyText r ≡ letter ∷ digits b k n
     → (next ≡ at + w + 1) × (out₁ ≡ place at (digits 10 w i ++ 32 ∷ []) out) → (last : ℕ)
     → (last ≡ next + 1 + k + 1) × (out₂ ≡ place (next + 1) (digits b k n ++ 10 ∷ []) (set out₁ next letter))
     → Placed at (line i r) out last out₂

@@ -5,9 +5,9 @@ ghost use mathlib.Core.Path.{_≡_};
 ghost use Prim.Native.Nat.{_+_, _*_, _/_, _≤_, _<_, min};
 ghost use lib.ListN.{length, getD};
 ghost use Rattle.spec_base.specs.Placing.{place};
-ghost use Rattle.spec_wire.specs.Frames.{cuts};
-ghost use Rattle.spec_rack.specs.RecordSteps.{replies, after};
-ghost use Rattle.spec_rack.specs.Text.{lines, told, opened, start, text, held};
+ghost use Rattle.spec_wire.specs.Frames.{frames};
+ghost use Rattle.spec_rack.specs.Lists.{replies, after};
+ghost use Rattle.spec_rack.specs.Rackrun.{lines, openingReply, openingAfter, stepsOffset, text, recordAfterRun};
 use base::wide;
 use spec_rack::Reply;
 use spec_wire::Refusal;
@@ -15,14 +15,14 @@ use spec_wire::Refusal;
 // Gives the records of a list to the record, and places the steps' lines.
 fn put_steps(rec: &mut [u8], list: &[u8], out: &mut [u8], at: usize) -> usize
     requires { ⌜ (length (now list) ≤ 65536) × (at + 16 * ((length (now list) + 2) / 3) ≤ length (now out)) ⌝ }
-    ensures text { λ r. ⌜ (r ≡ at + length (lines 1 (replies (now (rec .entry)) (cuts 65536 (now (list .entry)))))) × (now (out .exit) ≡ place at (lines 1 (replies (now (rec .entry)) (cuts 65536 (now (list .entry))))) (now (out .entry))) ⌝ }
-    ensures buffer { λ r. ⌜ now (rec .exit) ≡ after (now (rec .entry)) (cuts 65536 (now (list .entry))) ⌝ }
+    ensures text { λ r. ⌜ (r ≡ at + length (lines 1 (replies (now (rec .entry)) (frames 65536 (now (list .entry)))))) × (now (out .exit) ≡ place at (lines 1 (replies (now (rec .entry)) (frames 65536 (now (list .entry))))) (now (out .entry))) ⌝ }
+    ensures buffer { λ r. ⌜ now (rec .exit) ≡ after (now (rec .entry)) (frames 65536 (now (list .entry))) ⌝ }
 {
     let mut to = at;
     let mut place: usize = 0;
     let mut made: u64 = 0;
     while place < list.len() {
-        let end = wire_reader::frames::cut_end(list, place);
+        let end = wire_reader::frames::frame_end(list, place);
         let reply = engine_step::step(rec, &list[place..end]);
         made += 1;
         to = line::put_line(out, to, made, reply);
@@ -40,9 +40,9 @@ fn byte(input: &[u8], at: usize) -> u32
 }
 
 // Opens a rack with the first three bytes of an input.
-fn opened(rec: &mut [u8], input: &[u8]) -> Reply
-    ensures told { λ r. ⌜ r ≡ told (now (rec .entry)) (now (input .entry)) ⌝ }
-    ensures buffer { λ r. ⌜ now (rec .exit) ≡ opened (now (rec .entry)) (now (input .entry)) ⌝ }
+fn open_from_input(rec: &mut [u8], input: &[u8]) -> Reply
+    ensures reply { λ r. ⌜ r ≡ openingReply (now (rec .entry)) (now (input .entry)) ⌝ }
+    ensures buffer { λ r. ⌜ now (rec .exit) ≡ openingAfter (now (rec .entry)) (now (input .entry)) ⌝ }
 {
     if input.len() < 3 {
         return Reply::Refused(Refusal::Torn);
@@ -51,8 +51,8 @@ fn opened(rec: &mut [u8], input: &[u8]) -> Reply
 }
 
 // Where the steps start in an input of so many bytes: there are none where the opening was refused.
-fn start(reply: Reply, count: usize) -> usize
-    ensures { λ r. ⌜ r ≡ start reply count ⌝ }
+fn steps_offset(reply: Reply, count: usize) -> usize
+    ensures { λ r. ⌜ r ≡ stepsOffset reply count ⌝ }
 {
     match reply {
         Reply::Accepted(_) => 3,
@@ -61,7 +61,7 @@ fn start(reply: Reply, count: usize) -> usize
 }
 
 // How many bytes of an input are used.
-fn used(count: usize) -> usize
+fn used_input(count: usize) -> usize
     ensures { λ r. ⌜ r ≡ min 65536 count ⌝ }
 {
     if count < 65536 { count } else { 65536 }
@@ -70,11 +70,11 @@ fn used(count: usize) -> usize
 // Places the text of an input, with the record in `rec`, where the run leaves it, and gives its length.
 pub fn report(input: &[u8], rec: &mut [u8; 21380], out: &mut [u8; 349536]) -> usize
     ensures text { λ r. ⌜ (r ≡ length (text (now (rec .entry)) (now (input .entry)))) × (now (out .exit) ≡ place 0 (text (now (rec .entry)) (now (input .entry))) (now (out .entry))) ⌝ }
-    ensures buffer { λ r. ⌜ now (rec .exit) ≡ held (now (rec .entry)) (now (input .entry)) ⌝ }
+    ensures buffer { λ r. ⌜ now (rec .exit) ≡ recordAfterRun (now (rec .entry)) (now (input .entry)) ⌝ }
 {
-    let count = used(input.len());
-    let reply = opened(rec, input);
+    let count = used_input(input.len());
+    let reply = open_from_input(rec, input);
     let at = line::put_line(out, 0, 0, reply);
-    let from = start(reply, count);
+    let from = steps_offset(reply, count);
     put_steps(rec, &input[from..count], out, at)
 }

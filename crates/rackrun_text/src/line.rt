@@ -4,12 +4,12 @@ ghost use Prim.Native.Nat.{_+_, _≤_, _<_};
 ghost use mathlib.Core.List.{[], _∷_, _++_};
 ghost use lib.ListN.{length};
 ghost use Rattle.spec_base.specs.Placing.{place};
-ghost use Rattle.spec_rack.specs.Line.{digit, digits, decimal, said, line};
+ghost use Rattle.spec_rack.specs.Rackrun.{digit, digits, decimal, replyText, line};
 use spec_rack::Answer;
 use spec_rack::Reply;
 
 // What is said of a reply: a letter, and the lowest digits of a number.
-struct Said {
+struct ReplyText {
     letter: u8,
     base: u64,
     count: usize,
@@ -41,18 +41,18 @@ fn width(n: u64) -> usize
 }
 
 // What is said of a reply. The `k` of `ok` is the digit 20.
-fn told(reply: Reply) -> Said
-    ensures { λ r. ⌜ (said reply ≡ r .letter ∷ digits (r .base) (r .count) (r .n)) × (1 ≤ r .base) × (r .base ≤ 32) × (r .count ≤ 8) ⌝ }
+fn reply_text(reply: Reply) -> ReplyText
+    ensures { λ r. ⌜ (replyText reply ≡ r .letter ∷ digits (r .base) (r .count) (r .n)) × (1 ≤ r .base) × (r .base ≤ 32) × (r .count ≤ 8) ⌝ }
 {
     match reply {
         Reply::Accepted(answer) => match answer {
-            Answer::Done => Said {
+            Answer::Done => ReplyText {
                 letter: b'o',
                 base: 32,
                 count: 1,
                 n: 20,
             },
-            Answer::Word(word) => Said {
+            Answer::Word(word) => ReplyText {
                 letter: b'v',
                 base: 16,
                 count: 8,
@@ -61,7 +61,7 @@ fn told(reply: Reply) -> Said
         },
         Reply::Refused(refusal) => {
             let n = base::results::number(refusal);
-            Said {
+            ReplyText {
                 letter: b'r',
                 base: 10,
                 count: width(n),
@@ -92,7 +92,7 @@ pub fn put_line(out: &mut [u8], at: usize, index: u64, reply: Reply) -> usize
     requires { ⌜ at + 16 ≤ length (now out) ⌝ }
     ensures { λ r. ⌜ (r ≡ at + length (line index reply)) × (now (out .exit) ≡ place at (line index reply) (now (out .entry))) ⌝ }
 {
-    let said = told(reply);
+    let said = reply_text(reply);
     let next = put_digits(out, at, 10, width(index), index, b' ');
     out[next] = said.letter;
     put_digits(out, next + 1, said.base, said.count, said.n, b'\n')

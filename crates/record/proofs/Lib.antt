@@ -1,6 +1,7 @@
-pub mod Bytes
-pub mod Calls
-pub mod Figures
-pub mod Leaves
-pub mod Writing
-pub mod Moves
+pub mod FieldBytes
+pub mod Sequencing
+pub mod FieldOffsets
+pub mod FieldAccess
+pub mod FieldWrites
+pub mod MeshBytes
+pub mod Needs

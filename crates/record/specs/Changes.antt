@@ -5,24 +5,24 @@ use mathlib.Core.List.{List}
 use Rattle.spec_rack.specs.declared.Message.{Message}
 use Rattle.spec_rack.specs.Rack.{Cell, Rack}
 use Rattle.spec_rack.specs.Rules.{withCell}
-use Rattle.record.specs.declared.Marks.{Marks}
+use Rattle.record.specs.declared.TokenState.{TokenState}
 
 -- a cell's plain count, owner's mark and valid mark, as the code has them
-pub record MarksOf (x : Cell) (h : Marks) : Type 0 where
+pub record TokenStateOf (x : Cell) (h : TokenState) : Type 0 where
   pub plain : h .plain ≡ x .plain
   pub owner : h .owner ≡ x .owner
   pub valid : h .valid ≡ x .valid
 
 -- the cell with other marks and the same words, and with other marks and words
-abbrev pub marked : Cell → Marks → Cell
-marked x h = record { plain = h .plain; owner = h .owner; valid = h .valid; words = x .words }
+abbrev pub withTokenState : Cell → TokenState → Cell
+withTokenState x h = record { plain = h .plain; owner = h .owner; valid = h .valid; words = x .words }
 
-abbrev pub filled : Marks → List ℕ → Cell
-filled h ws = record { plain = h .plain; owner = h .owner; valid = h .valid; words = ws }
+abbrev pub newCell : TokenState → List ℕ → Cell
+newCell h ws = record { plain = h .plain; owner = h .owner; valid = h .valid; words = ws }
 
 -- a rack with another cell
-abbrev pub onCell : Rack → ℕ → ℕ → Cell → Rack
-onCell r b c x = withCell r b c x (r .mesh)
+abbrev pub replaceCell : Rack → ℕ → ℕ → Cell → Rack
+replaceCell r b c x = withCell r b c x (r .mesh)
 
 -- a rack with another mesh
 abbrev pub withMesh : Rack → List Message → Rack

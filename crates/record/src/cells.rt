@@ -5,9 +5,9 @@ ghost use lib.ListN.{getD};
 ghost use Rattle.spec_rack.specs.Rack.{cellAt};
 ghost use Rattle.spec_rack.specs.Rules.{stored};
 ghost use Rattle.spec_rack.specs.RecordLayout.{blockOffset, wordsOffset, wordsSize, get, put};
-ghost use Rattle.spec_rack.specs.Needs.{InCell};
-ghost use Rattle.record.specs.Changes.{MarksOf, marked, filled, onCell};
-use super::Marks;
+ghost use Rattle.record.specs.Needs.{CellInRecord};
+ghost use Rattle.record.specs.Changes.{TokenStateOf, withTokenState, newCell, replaceCell};
+use super::TokenState;
 use super::byte;
 use super::tokens;
 use super::words;
@@ -39,13 +39,13 @@ pub fn words_offset(block: u8, component: u8) -> usize
     BLOCKS_OFFSET + BLOCK_SIZE * (block as usize) + WORDS_OFFSET + WORDS_SIZE * (component as usize)
 }
 
-// The marks of a cell.
-pub fn marks_of(rec: &[u8], block: u8, component: u8) -> Marks
-    requires { ⌜ InCell (now rec) block component ⌝ }
-    ensures { λ r. ⌜ MarksOf (cellAt (get (now (rec .entry))) block component) r ⌝ }
+// The state of a cell.
+pub fn token_state(rec: &[u8], block: u8, component: u8) -> TokenState
+    requires { ⌜ CellInRecord (now rec) block component ⌝ }
+    ensures { λ r. ⌜ TokenStateOf (cellAt (get (now (rec .entry))) block component) r ⌝ }
 {
     let at = plain_offset(block, component);
-    Marks {
+    TokenState {
         plain: byte(rec, at, 0),
         owner: byte(rec, at, OWNER_OFFSET) == 1,
         valid: byte(rec, at, VALID_OFFSET) == 1,
@@ -53,28 +53,28 @@ pub fn marks_of(rec: &[u8], block: u8, component: u8) -> Marks
 }
 
 // Another plain count, owner and valid mark; the words stay.
-pub fn set_marks(rec: &mut [u8], block: u8, component: u8, marks: Marks)
-    requires { ⌜ InCell (now rec) block component ⌝ }
-    ensures { λ r. ⌜ now (rec .exit) ≡ put (onCell (get (now (rec .entry))) block component (marked (cellAt (get (now (rec .entry))) block component) marks)) (now (rec .entry)) ⌝ }
+pub fn set_token_state(rec: &mut [u8], block: u8, component: u8, state: TokenState)
+    requires { ⌜ CellInRecord (now rec) block component ⌝ }
+    ensures { λ r. ⌜ now (rec .exit) ≡ put (replaceCell (get (now (rec .entry))) block component (withTokenState (cellAt (get (now (rec .entry))) block component) state)) (now (rec .entry)) ⌝ }
 {
     let at = plain_offset(block, component);
-    tokens::put_lanes(rec, at, marks);
+    tokens::put_lanes(rec, at, state);
 }
 
 // Another plain count, owner, valid mark and words.
-pub fn set_cell(rec: &mut [u8], block: u8, component: u8, marks: Marks, values: [u32; 8])
-    requires { ⌜ InCell (now rec) block component ⌝ }
-    ensures { λ r. ⌜ now (rec .exit) ≡ put (onCell (get (now (rec .entry))) block component (filled marks values)) (now (rec .entry)) ⌝ }
+pub fn set_cell(rec: &mut [u8], block: u8, component: u8, state: TokenState, values: [u32; 8])
+    requires { ⌜ CellInRecord (now rec) block component ⌝ }
+    ensures { λ r. ⌜ now (rec .exit) ≡ put (replaceCell (get (now (rec .entry))) block component (newCell state values)) (now (rec .entry)) ⌝ }
 {
     let at = plain_offset(block, component);
     let place = words_offset(block, component);
-    tokens::put_lanes(rec, at, marks);
+    tokens::put_lanes(rec, at, state);
     words::put_words(rec, place, values);
 }
 
 // A word of a cell.
 pub fn word(rec: &[u8], block: u8, component: u8, index: u8) -> u32
-    requires { ⌜ InCell (now rec) block component × (index < 8) ⌝ }
+    requires { ⌜ CellInRecord (now rec) block component × (index < 8) ⌝ }
     ensures { λ r. ⌜ r ≡ getD (cellAt (get (now (rec .entry))) block component .words) index 0 ⌝ }
 {
     let at = words_offset(block, component);
@@ -83,7 +83,7 @@ pub fn word(rec: &[u8], block: u8, component: u8, index: u8) -> u32
 
 // Another word in a cell.
 pub fn set_word(rec: &mut [u8], block: u8, component: u8, index: u8, value: u32)
-    requires { ⌜ InCell (now rec) block component × (index < 8) ⌝ }
+    requires { ⌜ CellInRecord (now rec) block component × (index < 8) ⌝ }
     ensures { λ r. ⌜ now (rec .exit) ≡ put (stored (get (now (rec .entry))) component block index value) (now (rec .entry)) ⌝ }
 {
     let at = words_offset(block, component);
@@ -93,7 +93,7 @@ pub fn set_word(rec: &mut [u8], block: u8, component: u8, index: u8, value: u32)
 
 // All words of a cell.
 pub fn words_of(rec: &[u8], block: u8, component: u8) -> [u32; 8]
-    requires { ⌜ InCell (now rec) block component ⌝ }
+    requires { ⌜ CellInRecord (now rec) block component ⌝ }
     ensures { λ r. ⌜ r ≡ cellAt (get (now (rec .entry))) block component .words ⌝ }
 {
     let at = words_offset(block, component);

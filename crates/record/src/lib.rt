@@ -11,7 +11,7 @@ pub mod tokens;
 pub mod words;
 
 // A cell's plain count, owner and valid mark.
-pub struct Marks {
+pub struct TokenState {
     pub plain: u8,
     pub owner: bool,
     pub valid: bool,

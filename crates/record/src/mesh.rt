@@ -3,13 +3,13 @@ ghost use mathlib.Core.Path.{_≡_};
 ghost use mathlib.Core.List.{[], _∷_, _++_};
 ghost use Prim.Native.Nat.{_+_, _*_, _≤_, _<_};
 ghost use lib.ListN.{length, getD};
-ghost use Rattle.spec_base.specs.Folds.{removed};
-ghost use Rattle.spec_base.specs.Layout.{part, over};
+ghost use Rattle.spec_base.specs.Folds.{removeAt};
+ghost use Rattle.spec_base.specs.Layout.{slice, modifyAt};
 ghost use Rattle.spec_rack.specs.Rack.{messageAt};
 ghost use Rattle.spec_rack.specs.RecordLayout.{messageSize, message, get, put};
-ghost use Rattle.spec_rack.specs.Needs.{Whole};
+ghost use Rattle.record.specs.Needs.{InLayout};
 ghost use Rattle.record.specs.Changes.{withMesh};
-use super::Marks;
+use super::TokenState;
 use super::byte;
 use super::tokens;
 use super::words;
@@ -19,7 +19,7 @@ use spec_rack::Message;
 
 // The message at a position.
 pub fn message_at(rec: &[u8], position: u8) -> Message
-    requires { ⌜ Whole (now rec) × (position < getD (now rec) 3 0) ⌝ }
+    requires { ⌜ InLayout (now rec) × (position < getD (now rec) 3 0) ⌝ }
     ensures { λ r. ⌜ r ≡ messageAt (get (now (rec .entry))) position ⌝ }
 {
     let at = HEADER_SIZE + MESSAGE_SIZE * (position as usize);
@@ -38,16 +38,16 @@ pub fn message_at(rec: &[u8], position: u8) -> Message
 // Writes a message at a place.
 fn put_message(s: &mut [u8], at: usize, m: Message)
     requires { ⌜ at + messageSize ≤ length (now s) ⌝ }
-    ensures { λ r. ⌜ now (s .exit) ≡ over at messageSize (message .write m) (now (s .entry)) ⌝ }
+    ensures { λ r. ⌜ now (s .exit) ≡ modifyAt at messageSize (message .write m) (now (s .entry)) ⌝ }
 {
     let values = m.words;
     s[at] = m.sender;
     s[at + 1] = m.target;
     s[at + 2] = m.block;
-    tokens::put_marks(
+    tokens::put_token_state(
         s,
         at + 3,
-        Marks {
+        TokenState {
             plain: m.plain,
             owner: m.owner,
             valid: m.data,
@@ -60,7 +60,7 @@ fn put_message(s: &mut [u8], at: usize, m: Message)
 
 // One message more, as the newest.
 pub fn append(rec: &mut [u8], m: Message)
-    requires { ⌜ Whole (now rec) × (getD (now rec) 3 0 < 64) ⌝ }
+    requires { ⌜ InLayout (now rec) × (getD (now rec) 3 0 < 64) ⌝ }
     ensures { λ r. ⌜ now (rec .exit) ≡ put (withMesh (get (now (rec .entry))) (get (now (rec .entry)) .mesh ++ m ∷ [])) (now (rec .entry)) ⌝ }
 {
     let count = rec[3];
@@ -70,9 +70,9 @@ pub fn append(rec: &mut [u8], m: Message)
 }
 
 // Copies the bytes that stand a message further over those from a place on.
-fn move_up(s: &mut [u8], at: usize, count: usize)
+fn close_gap(s: &mut [u8], at: usize, count: usize)
     requires { ⌜ at + messageSize + count ≤ length (now s) ⌝ }
-    ensures { λ r. ⌜ now (s .exit) ≡ over at count (λ t. part (at + messageSize) count (now (s .entry))) (now (s .entry)) ⌝ }
+    ensures { λ r. ⌜ now (s .exit) ≡ modifyAt at count (λ t. slice (at + messageSize) count (now (s .entry))) (now (s .entry)) ⌝ }
 {
     let mut i: usize = 0;
     while i < count {
@@ -83,14 +83,14 @@ fn move_up(s: &mut [u8], at: usize, count: usize)
 
 // The mesh without the message at a position; the rest keep their order.
 pub fn remove(rec: &mut [u8], position: u8)
-    requires { ⌜ Whole (now rec) × (position < getD (now rec) 3 0) ⌝ }
-    ensures { λ r. ⌜ now (rec .exit) ≡ put (withMesh (get (now (rec .entry))) (removed (get (now (rec .entry)) .mesh) position)) (now (rec .entry)) ⌝ }
+    requires { ⌜ InLayout (now rec) × (position < getD (now rec) 3 0) ⌝ }
+    ensures { λ r. ⌜ now (rec .exit) ≡ put (withMesh (get (now (rec .entry))) (removeAt (get (now (rec .entry)) .mesh) position)) (now (rec .entry)) ⌝ }
 {
     let count = rec[3];
     let left = count - 1;
     let behind = left - position;
     let at = HEADER_SIZE + MESSAGE_SIZE * (position as usize);
     let bytes = MESSAGE_SIZE * (behind as usize);
-    move_up(rec, at, bytes);
+    close_gap(rec, at, bytes);
     rec[3] = left;
 }

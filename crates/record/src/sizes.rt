@@ -2,7 +2,7 @@
 ghost use mathlib.Core.Path.{_≡_};
 ghost use mathlib.Core.Bool.{_&&_};
 ghost use lib.Dec.{leb};
-ghost use Rattle.spec_rack.specs.Sound.{sizes};
+ghost use Rattle.spec_rack.specs.Soundness.{sizes};
 use base::both;
 
 fn between(low: u32, x: u32, high: u32) -> bool

@@ -1,30 +1,30 @@
-// A plain count and two marks: in three bytes side by side, and one in each lane of a block.
+// A plain count and two state: in three bytes side by side, and one in each lane of a block.
 ghost use mathlib.Core.Path.{_≡_};
 ghost use Prim.Native.Nat.{_+_, _≤_, _<_};
 ghost use lib.ListN.{length, set};
-ghost use Rattle.spec_base.specs.Folds.{one};
-ghost use Rattle.spec_base.specs.Layout.{over};
+ghost use Rattle.spec_base.specs.Folds.{toℕ};
+ghost use Rattle.spec_base.specs.Layout.{modifyAt};
 ghost use Rattle.spec_rack.specs.RecordLayout.{ownerOffset, validOffset, tokens};
-use super::Marks;
+use super::TokenState;
 use spec_rack::OWNER_OFFSET;
 use spec_rack::VALID_OFFSET;
 
-// Writes the marks at a place.
-pub fn put_marks(s: &mut [u8], at: usize, marks: Marks)
+// Writes the state at a place.
+pub fn put_token_state(s: &mut [u8], at: usize, state: TokenState)
     requires { ⌜ at + 3 ≤ length (now s) ⌝ }
-    ensures { λ r. ⌜ now (s .exit) ≡ over at 3 (tokens .write (marks .plain, (marks .owner, marks .valid))) (now (s .entry)) ⌝ }
+    ensures { λ r. ⌜ now (s .exit) ≡ modifyAt at 3 (tokens .write (state .plain, (state .owner, state .valid))) (now (s .entry)) ⌝ }
 {
-    s[at] = marks.plain;
-    s[at + 1] = marks.owner as u8;
-    s[at + 2] = marks.valid as u8;
+    s[at] = state.plain;
+    s[at + 1] = state.owner as u8;
+    s[at + 2] = state.valid as u8;
 }
 
-// Writes the marks into the lanes of a block, the plain count at a place.
-pub fn put_lanes(s: &mut [u8], at: usize, marks: Marks)
+// Writes the state into the lanes of a block, the plain count at a place.
+pub fn put_lanes(s: &mut [u8], at: usize, state: TokenState)
     requires { ⌜ at + validOffset < length (now s) ⌝ }
-    ensures { λ r. ⌜ now (s .exit) ≡ set (set (set (now (s .entry)) at (marks .plain)) (at + ownerOffset) (one (marks .owner))) (at + validOffset) (one (marks .valid)) ⌝ }
+    ensures { λ r. ⌜ now (s .exit) ≡ set (set (set (now (s .entry)) at (state .plain)) (at + ownerOffset) (toℕ (state .owner))) (at + validOffset) (toℕ (state .valid)) ⌝ }
 {
-    s[at] = marks.plain;
-    s[at + OWNER_OFFSET] = marks.owner as u8;
-    s[at + VALID_OFFSET] = marks.valid as u8;
+    s[at] = state.plain;
+    s[at + OWNER_OFFSET] = state.owner as u8;
+    s[at + VALID_OFFSET] = state.valid as u8;
 }

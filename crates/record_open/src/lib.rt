@@ -2,10 +2,10 @@
 ghost use mathlib.Core.Path.{_≡_};
 ghost use Prim.Native.Nat.{_+_, _≤_, _<_};
 ghost use lib.ListN.{length, replicate};
-ghost use Rattle.spec_base.specs.Layout.{over};
+ghost use Rattle.spec_base.specs.Layout.{modifyAt};
 ghost use Rattle.spec_rack.specs.Rack.{freshBlock, fresh};
 ghost use Rattle.spec_rack.specs.RecordLayout.{blockSize, recordLength, block, put};
-ghost use Rattle.spec_rack.specs.Opening.{openTold, openAfter};
+ghost use Rattle.spec_rack.specs.Opening.{openReply, openAfter};
 use record::sizes;
 use spec_rack::Answer;
 use spec_rack::BLOCK_SIZE;
@@ -19,9 +19,9 @@ use spec_rack::WORDS_SIZE;
 use spec_wire::Refusal;
 
 // Makes bytes from a place on 0.
-fn clear(s: &mut [u8], at: usize, count: usize)
+fn zero_fill(s: &mut [u8], at: usize, count: usize)
     requires { ⌜ at + count ≤ length (now s) ⌝ }
-    ensures { λ r. ⌜ now (s .exit) ≡ over at count (λ t. replicate count 0) (now (s .entry)) ⌝ }
+    ensures { λ r. ⌜ now (s .exit) ≡ modifyAt at count (λ t. replicate count 0) (now (s .entry)) ⌝ }
 {
     let mut i: usize = 0;
     while i < count {
@@ -33,14 +33,14 @@ fn clear(s: &mut [u8], at: usize, count: usize)
 // Writes the fresh block at a place: home holds all tokens, valid.
 fn open_block(rec: &mut [u8], at: usize, boards: u32, tokens: u32)
     requires { ⌜ (boards < 16) × (1 ≤ tokens) × (tokens ≤ 64) × (at + blockSize ≤ length (now rec)) ⌝ }
-    ensures { λ r. ⌜ now (rec .exit) ≡ over at blockSize (block boards .write (freshBlock boards tokens)) (now (rec .entry)) ⌝ }
+    ensures { λ r. ⌜ now (rec .exit) ≡ modifyAt at blockSize (block boards .write (freshBlock boards tokens)) (now (rec .entry)) ⌝ }
 {
     let words = WORDS_SIZE * (boards as usize + 1);
     let sets = at + CLAIMS_OFFSET;
     let behind = at + WORDS_OFFSET;
-    clear(rec, at, 48);
-    clear(rec, sets, 34);
-    clear(rec, behind, words);
+    zero_fill(rec, at, 48);
+    zero_fill(rec, sets, 34);
+    zero_fill(rec, behind, words);
     rec[at] = (tokens - 1) as u8;
     rec[at + OWNER_OFFSET] = 1;
     rec[at + VALID_OFFSET] = 1;
@@ -66,7 +66,7 @@ fn write_fresh(rec: &mut [u8], boards: u32, blocks: u32, tokens: u32)
 
 // Opens a record of N boards, B blocks and T tokens to a block.
 pub fn open(rec: &mut [u8], boards: u32, blocks: u32, tokens: u32) -> Reply
-    ensures reply { λ r. ⌜ r ≡ openTold boards blocks tokens (now (rec .entry)) ⌝ }
+    ensures reply { λ r. ⌜ r ≡ openReply boards blocks tokens (now (rec .entry)) ⌝ }
     ensures buffer { λ r. ⌜ now (rec .exit) ≡ openAfter boards blocks tokens (now (rec .entry)) ⌝ }
 {
     if !sizes::in_range(boards, blocks, tokens) {

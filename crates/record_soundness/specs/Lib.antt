@@ -1,3 +1,3 @@
-pub mod Fine
-pub mod Message
-pub mod Deciding
+pub mod Lanes
+pub mod Messages
+pub mod Decision

@@ -6,17 +6,17 @@ ghost use mathlib.Core.Path.{_≡_};
 ghost use mathlib.Core.Bool.{true, _&&_};
 ghost use Prim.Native.Nat.{ℕ, _+_, _*_, _≤_, _<_};
 ghost use lib.ListN.{length, getD, replicate};
-ghost use Rattle.spec_base.specs.Folds.{below};
-ghost use Rattle.spec_rack.specs.Sound.{sizes};
+ghost use Rattle.spec_base.specs.Folds.{allBelow};
+ghost use Rattle.spec_rack.specs.Soundness.{sizes};
 ghost use Rattle.spec_rack.specs.RecordLayout.{blockSize, blocksOffset, blockOffset, messageOffset, recordLength};
-ghost use Rattle.spec_rack.specs.RecordSound.{soundBytes};
-ghost use Rattle.record_soundness.specs.Message.{messageFine};
-ghost use Rattle.record_soundness.specs.Deciding.{flying, tokensFine, claimsFine, blockFine};
+ghost use Rattle.spec_rack.specs.Soundness.{soundBytes};
+ghost use Rattle.record_soundness.specs.Messages.{soundMessageAt};
+ghost use Rattle.record_soundness.specs.Decision.{sumInFlight, tokensTotal, soundClaimsAt, soundBlockAt};
 use base::both;
 use base::wide;
 use lanes::sum16;
-use message::message_fine;
-use message::weight;
+use message::sound_message_at;
+use message::token_sum;
 use record::sizes;
 use spec_rack::BLOCK_SIZE;
 use spec_rack::BLOCKS_OFFSET;
@@ -26,41 +26,41 @@ use spec_rack::MESSAGE_SIZE;
 use spec_rack::OWNER_OFFSET;
 
 // Whether the messages are fine; where they are, each block's weight in them is added to its sum.
-fn mesh_fine(rec: &[u8], boards: u8, blocks: u8, count: usize, sums: &mut [u32; 32]) -> bool
+fn mesh_sound(rec: &[u8], boards: u8, blocks: u8, count: usize, sums: &mut [u32; 32]) -> bool
     requires { ⌜ (blocks ≤ 32) × (count ≤ 64) × (blocksOffset ≤ length (now rec)) × (now sums ≡ replicate 32 0) ⌝ }
-    ensures fine { λ r. ⌜ r ≡ below count (λ i. messageFine boards blocks (now (rec .entry)) (messageOffset i)) ⌝ }
-    ensures sums { λ r. ⌜ (r ≡ true → (k : ℕ) → k < 32 → (getD (now (sums .exit)) k 0 ≡ flying (now (rec .entry)) count k)) ⌝ }
+    ensures fine { λ r. ⌜ r ≡ allBelow count (λ i. soundMessageAt boards blocks (now (rec .entry)) (messageOffset i)) ⌝ }
+    ensures sums { λ r. ⌜ (r ≡ true → (k : ℕ) → k < 32 → (getD (now (sums .exit)) k 0 ≡ sumInFlight (now (rec .entry)) count k)) ⌝ }
 {
     let mut i: usize = 0;
     while i < count {
         let at = HEADER_SIZE + MESSAGE_SIZE * i;
-        if !message_fine(rec, at, boards, blocks) {
+        if !sound_message_at(rec, at, boards, blocks) {
             return false;
         }
         let block = rec[at + 2] as usize;
-        sums[block] = weight(rec, at + 3) + sums[block];
+        sums[block] = token_sum(rec, at + 3) + sums[block];
         i += 1;
     }
     true
 }
 
 // Whether the block at a place has T tokens with one owner, given the weight of its messages in flight.
-fn tokens_fine(rec: &[u8], at: usize, tokens: u8, mesh: u32) -> bool
+fn tokens_total(rec: &[u8], at: usize, tokens: u8, mesh: u32) -> bool
     requires { ⌜ (at + blockSize ≤ length (now rec)) × (mesh ≤ 1069563840) ⌝ }
-    ensures { λ r. ⌜ r ≡ tokensFine tokens (now (rec .entry)) at mesh ⌝ }
+    ensures { λ r. ⌜ r ≡ tokensTotal tokens (now (rec .entry)) at mesh ⌝ }
 {
     sum16(rec, at) + sum16(rec, at + OWNER_OFFSET) * 65536 + mesh == wide(tokens) + 65535
 }
 
 // Whether the tokens and the claims of every block are sound.
-fn sums_fine(rec: &[u8], boards: u8, tokens: u8, count: usize, sums: &[u32; 32]) -> bool
+fn sums_sound(rec: &[u8], boards: u8, tokens: u8, count: usize, sums: &[u32; 32]) -> bool
     requires { ⌜ (boards < 16) × (count ≤ 32) × (recordLength count ≤ length (now rec)) × ((k : ℕ) → k < 32 → getD (now sums) k 0 ≤ 1069563840) ⌝ }
-    ensures { λ r. ⌜ r ≡ below count (λ b. tokensFine tokens (now (rec .entry)) (blockOffset b) (getD (now (sums .entry)) b 0) && claimsFine boards (now (rec .entry)) (blockOffset b)) ⌝ }
+    ensures { λ r. ⌜ r ≡ allBelow count (λ b. tokensTotal tokens (now (rec .entry)) (blockOffset b) (getD (now (sums .entry)) b 0) && soundClaimsAt boards (now (rec .entry)) (blockOffset b)) ⌝ }
 {
     let mut b: usize = 0;
     while b < count {
         let at = BLOCKS_OFFSET + BLOCK_SIZE * b;
-        if !tokens_fine(rec, at, tokens, sums[b]) {
+        if !tokens_total(rec, at, tokens, sums[b]) {
             return false;
         }
         if !arbiter::sound::sound_at(rec, at + CLAIMS_OFFSET, boards) {
@@ -72,17 +72,17 @@ fn sums_fine(rec: &[u8], boards: u8, tokens: u8, count: usize, sums: &[u32; 32])
 }
 
 // Whether every block is sound.
-fn blocks_fine(rec: &[u8], boards: u8, tokens: u8, count: usize, sums: &[u32; 32]) -> bool
+fn blocks_sound(rec: &[u8], boards: u8, tokens: u8, count: usize, sums: &[u32; 32]) -> bool
     requires { ⌜ (boards < 16) × (count ≤ 32) × (recordLength count ≤ length (now rec)) × ((k : ℕ) → k < 32 → getD (now sums) k 0 ≤ 1069563840) ⌝ }
-    ensures { λ r. ⌜ r ≡ below count (λ b. blockFine boards tokens (now (rec .entry)) (blockOffset b) (getD (now (sums .entry)) b 0)) ⌝ }
+    ensures { λ r. ⌜ r ≡ allBelow count (λ b. soundBlockAt boards tokens (now (rec .entry)) (blockOffset b) (getD (now (sums .entry)) b 0)) ⌝ }
 {
-    let summed = sums_fine(rec, boards, tokens, count, sums);
+    let summed = sums_sound(rec, boards, tokens, count, sums);
     if !summed {
         return false;
     }
     both(
-        lanes::all_marks(rec, count),
-        lanes::rooms_clear(rec, count, boards),
+        lanes::all_lanes_sound(rec, count),
+        lanes::unused_lanes_empty(rec, count, boards),
     )
 }
 
@@ -112,8 +112,8 @@ pub fn sound(rec: &[u8]) -> bool
         return false;
     }
     let mut sums = [0u32; 32];
-    if !mesh_fine(rec, boards, blocks, wide(messages) as usize, &mut sums) {
+    if !mesh_sound(rec, boards, blocks, wide(messages) as usize, &mut sums) {
         return false;
     }
-    blocks_fine(rec, boards, tokens, count, &sums)
+    blocks_sound(rec, boards, tokens, count, &sums)
 }

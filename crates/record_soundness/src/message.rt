@@ -3,32 +3,32 @@ ghost use mathlib.Core.Path.{_≡_};
 ghost use Prim.Native.Nat.{_+_, _≤_};
 ghost use lib.ListN.{length};
 ghost use Rattle.spec_rack.specs.RecordLayout.{messageSize};
-ghost use Rattle.record_soundness.specs.Fine.{marksFine, weightAt};
-ghost use Rattle.record_soundness.specs.Message.{endsFine, messageFine};
+ghost use Rattle.record_soundness.specs.Lanes.{flagsConsistent, tokenSumAt};
+ghost use Rattle.record_soundness.specs.Messages.{endpointsKnown, soundMessageAt};
+use base::all_zero;
 use base::both;
-use base::clear;
 use base::wide;
 use record::byte;
 
 // The weight of the plain count and the owner at a place.
-pub fn weight(rec: &[u8], at: usize) -> u32
+pub fn token_sum(rec: &[u8], at: usize) -> u32
     requires { ⌜ at + 2 ≤ length (now rec) ⌝ }
-    ensures { λ r. ⌜ (r ≡ weightAt (now (rec .entry)) at) × (r ≤ 16711935) ⌝ }
+    ensures { λ r. ⌜ (r ≡ tokenSumAt (now (rec .entry)) at) × (r ≤ 16711935) ⌝ }
 {
     wide(byte(rec, at, 0)) + wide(byte(rec, at, 1)) * 65536
 }
 
 // Whether the owner's mark and data (here `valid`) are 0 or 1, and the owner stands only beside data.
-fn marks_fine(owner: u8, valid: u8) -> bool
-    ensures { λ r. ⌜ r ≡ marksFine owner valid ⌝ }
+fn flags_consistent(owner: u8, valid: u8) -> bool
+    ensures { λ r. ⌜ r ≡ flagsConsistent owner valid ⌝ }
 {
     both(owner <= valid, valid < 2)
 }
 
 // Whether a message's ends are known and differ, and its block is known.
-fn ends_fine(rec: &[u8], at: usize, boards: u8, blocks: u8) -> bool
+fn endpoints_known(rec: &[u8], at: usize, boards: u8, blocks: u8) -> bool
     requires { ⌜ at + 3 ≤ length (now rec) ⌝ }
-    ensures { λ r. ⌜ r ≡ endsFine boards blocks (now (rec .entry)) at ⌝ }
+    ensures { λ r. ⌜ r ≡ endpointsKnown boards blocks (now (rec .entry)) at ⌝ }
 {
     let sender = byte(rec, at, 0);
     let target = byte(rec, at, 1);
@@ -40,21 +40,21 @@ fn ends_fine(rec: &[u8], at: usize, boards: u8, blocks: u8) -> bool
 }
 
 // Whether the message at a place is formed and sound.
-pub fn message_fine(rec: &[u8], at: usize, boards: u8, blocks: u8) -> bool
+pub fn sound_message_at(rec: &[u8], at: usize, boards: u8, blocks: u8) -> bool
     requires { ⌜ at + messageSize ≤ length (now rec) ⌝ }
-    ensures { λ r. ⌜ r ≡ messageFine boards blocks (now (rec .entry)) at ⌝ }
+    ensures { λ r. ⌜ r ≡ soundMessageAt boards blocks (now (rec .entry)) at ⌝ }
 {
-    let ends = ends_fine(rec, at, boards, blocks);
+    let ends = endpoints_known(rec, at, boards, blocks);
     let plain = byte(rec, at, 3);
     let owner = byte(rec, at, 4);
     let data = byte(rec, at, 5);
     let carried = wide(plain) + wide(owner);
     let fine = both(
-        both(both(marks_fine(owner, data), 0 < carried), ends),
-        clear(rec, at + 6, 2),
+        both(both(flags_consistent(owner, data), 0 < carried), ends),
+        all_zero(rec, at + 6, 2),
     );
     if data == 1 {
         return fine;
     }
-    both(fine, clear(rec, at + 8, 32))
+    both(fine, all_zero(rec, at + 8, 32))
 }

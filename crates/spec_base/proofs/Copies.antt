@@ -6,9 +6,9 @@ use mathlib.Core.Path.{_≡_, refl, sym, ap, _∙_}
 use mathlib.Core.List.{List, [], _∷_, _++_, append-assoc, append-nil}
 use lib.ListN.{length, set, take, drop, length-drop, drop-of-length-le}
 use lib.Seq.{drop-drop, take-add, length-take-le}
-use Rattle.spec_base.specs.Folds.{one, All, removed}
+use Rattle.spec_base.specs.Folds.{toℕ, All, removeAt}
 use Rattle.spec_base.specs.Number.{digits}
-use Rattle.spec_base.specs.Layout.{Layout, part, over, cover, byte, flag, big, pair, iso, items, readItems, writeItems}
+use Rattle.spec_base.specs.Layout.{Layout, slice, modifyAt, overwrite, byte, flag, big, pair, iso, items, readItems, writeItems}
 use Rattle.spec_base.proofs.Parts.{over-behind, length-part, bytes-take, cover-room}
 use Rattle.spec_base.proofs.Numbers.{length-digits}
 use Rattle.spec_base.proofs.Laws.{Lawful, Items, StandItems, stands-item, stand-rest}
@@ -18,15 +18,15 @@ use Rattle.spec_base.proofs.Places.{over-past}
 
 module _ {A : Type 0} (L : Layout A) {P : A → Type 0} (λL : Lawful L P) where
   pub items-more : (xs : List A) (v : A) (s : List ℕ) → suc (length xs) * L .size ≤ length s
-      → writeItems L (xs ++ (v ∷ [])) s ≡ over (length xs * L .size) (L .size) (L .write v) (writeItems L xs s)
+      → writeItems L (xs ++ (v ∷ [])) s ≡ modifyAt (length xs * L .size) (L .size) (L .write v) (writeItems L xs s)
   items-more [] v s l =
       ap (λ (k : ℕ). L .write v (take (L .size) s) ++ drop k s) (sym (zero-add (L .size)))
-      ∙ ap (λ (k : ℕ). over k (L .size) (L .write v) s) (sym (zero-mul (L .size)))
+      ∙ ap (λ (k : ℕ). modifyAt k (L .size) (L .write v) s) (sym (zero-mul (L .size)))
   items-more (x ∷ xs) v s l =
       let r : length xs * L .size + L .size + L .size ≤ length s = omega arith in
       ap (λ (t : List ℕ). L .write x (take (L .size) s) ++ t) (items-more xs v (drop (L .size) s) (simp length-drop (omega arith)))
       ∙ sym (over-past (L .write v) (L .size) (length xs * L .size) (L .size) (L .write x (take (L .size) s)) (writeItems L xs (drop (L .size) s)) (λL .keeps x (take (L .size) s) ∙ length-take-le (L .size) s (omega arith)))
-      ∙ ap (λ (k : ℕ). over k (L .size) (L .write v) (writeItems L (x ∷ xs) s)) (add-comm (L .size) (length xs * L .size) ∙ sym (suc-mul (length xs) (L .size)))
+      ∙ ap (λ (k : ℕ). modifyAt k (L .size) (L .write v) (writeItems L (x ∷ xs) s)) (add-comm (L .size) (length xs * L .size) ∙ sym (suc-mul (length xs) (L .size)))
 
 -- ---- layouts that leave none of their bytes as it was
 
@@ -44,10 +44,10 @@ pub full-byte : Full byte (λ v. v < 256)
 full-byte = record { fills = λ v o s t p q. one-set v s t p q }
 
 pub full-flag : Full flag (λ v. Unit {0})
-full-flag = record { fills = λ v o s t p q. one-set (one v) s t p q }
+full-flag = record { fills = λ v o s t p q. one-set (toℕ v) s t p q }
 
 module _ (n : ℕ) where
-  alone : (v : ℕ) (s : List ℕ) → length s ≡ n → cover (digits n v) s ≡ digits n v
+  alone : (v : ℕ) (s : List ℕ) → length s ≡ n → overwrite (digits n v) s ≡ digits n v
   alone v s p =
       cover-room (digits n v) s (le-of-eq (length-digits n v ∙ sym p))
       ∙ ap (λ (r : List ℕ). digits n v ++ r) (drop-of-length-le s (le-of-eq (p ∙ sym (length-digits n v))))
@@ -61,7 +61,7 @@ module _ {A B : Type 0} (L : Layout A) (M : Layout B) {P : A → Type 0} {Q : B 
   full-pair F G = record {
     fills = λ v o s t p q. λ i.
         F .fills (v .0) (o .0) (take (L .size) s) (take (L .size) t) (length-take-le (L .size) s (omega arith)) (length-take-le (L .size) t (omega arith)) i
-        ++ (G .fills (v .1) (o .1) (part (L .size) (M .size) s) (part (L .size) (M .size) t) (length-part (L .size) (M .size) s (omega arith)) (length-part (L .size) (M .size) t (omega arith)) i
+        ++ (G .fills (v .1) (o .1) (slice (L .size) (M .size) s) (slice (L .size) (M .size) t) (length-part (L .size) (M .size) s (omega arith)) (length-part (L .size) (M .size) t (omega arith)) i
         ++ (drop-of-length-le s (le-of-eq p) ∙ sym (drop-of-length-le t (le-of-eq q))) i);
   }
 
@@ -88,7 +88,7 @@ module _ {A : Type 0} (L : Layout A) {P : A → Type 0} where
 next : (p k : ℕ) → k + p * k ≡ suc p * k
 next p k = add-comm k (p * k) ∙ sym (suc-mul p k)
 
-front-removed : (n k : ℕ) (s : List ℕ) → take (n * k) (drop k s) ++ drop (n * k) s ≡ over (0 * k) ((n - 0) * k) (λ r. part (1 * k) ((n - 0) * k) s) s
+front-removed : (n k : ℕ) (s : List ℕ) → take (n * k) (drop k s) ++ drop (n * k) s ≡ modifyAt (0 * k) ((n - 0) * k) (λ r. slice (1 * k) ((n - 0) * k) s) s
 front-removed n k s = simp (zero-mul, sub-zero, one-mul, zero-add)
 
 module _ {A : Type 0} (L : Layout A) {P : A → Type 0} (λL : Lawful L P) (F : Full L P) where
@@ -110,7 +110,7 @@ module _ {A : Type 0} (L : Layout A) {P : A → Type 0} (λL : Lawful L P) (F : 
 
   -- an item is removed, the rest moving up: the bytes behind it are copied over its own
   pub items-removed : (n p : ℕ) (s : List ℕ) → p ≤ n → StandItems L (suc n) s
-      → writeItems L (removed (readItems L (suc n) s) p) s ≡ over (p * L .size) ((n - p) * L .size) (λ r. part (suc p * L .size) ((n - p) * L .size) s) s
+      → writeItems L (removeAt (readItems L (suc n) s) p) s ≡ modifyAt (p * L .size) ((n - p) * L .size) (λ r. slice (suc p * L .size) ((n - p) * L .size) s) s
   items-removed n zero s h t =
       let k : ℕ = L .size in
       let hs : n * k + k ≤ length s = omega (arith, t .room) in
@@ -121,6 +121,6 @@ module _ {A : Type 0} (L : Layout A) {P : A → Type 0} (λL : Lawful L P) (F : 
       let k : ℕ = L .size in
       (λ i. λL .unchanged (take k s) (stands-item L (suc n) s t) i
       ++ items-removed n p (drop k s) (le-of-suc-le-suc h) (stand-rest L (suc n) s t) i)
-      ∙ over-behind (λ r. part (suc p * k) ((n - p) * k) (drop k s)) k (p * k) ((n - p) * k) s
-      ∙ (λ i. over (next p k i) ((n - p) * k) (λ r. take ((n - p) * k) (drop-drop (suc p * k) k s i)) s)
-      ∙ (λ i. over (suc p * k) (sym (suc-sub-suc n p) i * k) (λ r. part (next (suc p) k i) (sym (suc-sub-suc n p) i * k) s) s)
+      ∙ over-behind (λ r. slice (suc p * k) ((n - p) * k) (drop k s)) k (p * k) ((n - p) * k) s
+      ∙ (λ i. modifyAt (next p k i) ((n - p) * k) (λ r. take ((n - p) * k) (drop-drop (suc p * k) k s i)) s)
+      ∙ (λ i. modifyAt (suc p * k) (sym (suc-sub-suc n p) i * k) (λ r. slice (next (suc p) k i) (sym (suc-sub-suc n p) i * k) s) s)

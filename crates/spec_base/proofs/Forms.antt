@@ -11,33 +11,33 @@ use lib.ListN.{getD, take, drop}
 use lib.Seq.{take-take, getD-drop}
 use lib.Dec.{eqb}
 use borrow.Author.Tests.{eq-eqb, eqb-true}
-use Rattle.spec_base.specs.Folds.{below, every, All}
+use Rattle.spec_base.specs.Folds.{allBelow, all, All}
 use Rattle.spec_base.proofs.Tests.{lt-or-le, same-test}
 use Rattle.spec_base.proofs.Folds.{below-at, below-of, below-same, all-every, every-all}
 use Rattle.spec_base.specs.Number.{numberFrom}
-use Rattle.spec_base.specs.Layout.{Layout, part, big, pair, readItems, formedItems}
+use Rattle.spec_base.specs.Layout.{Layout, slice, big, pair, readItems, wellFormedItems}
 use Rattle.spec_base.proofs.Parts.{part-part}
 use Rattle.spec_base.proofs.Places.{formed-below}
 
 -- ---- the form of two values and of items
 
 module _ {A B : Type 0} (L : Layout A) (M : Layout B) (p : ℕ) (s : List ℕ) where
-  pub formed-pair : pair L M .formed (part p (L .size + M .size) s) ≡ (L .formed (part p (L .size) s) && M .formed (part (p + L .size) (M .size) s))
+  pub formed-pair : pair L M .wellFormed (slice p (L .size + M .size) s) ≡ (L .wellFormed (slice p (L .size) s) && M .wellFormed (slice (p + L .size) (M .size) s))
   formed-pair = λ i.
-      L .formed (take-take (L .size) (L .size + M .size) (drop p s) (omega arith) i)
-      && M .formed (part-part p (L .size + M .size) (L .size) (M .size) s (le-refl (L .size + M .size)) i)
+      L .wellFormed (take-take (L .size) (L .size + M .size) (drop p s) (omega arith) i)
+      && M .wellFormed (part-part p (L .size + M .size) (L .size) (M .size) s (le-refl (L .size + M .size)) i)
 
 -- items of z bytes
 pub formed-items : {A : Type 0} (L : Layout A) (z : ℕ) → L .size ≡ z → (room n p : ℕ) (s : List ℕ) → n ≤ room
-    → formedItems L n (part p (room * L .size) s) ≡ below n (λ i. L .formed (part (p + z * i) z s))
+    → wellFormedItems L n (slice p (room * L .size) s) ≡ allBelow n (λ i. L .wellFormed (slice (p + z * i) z s))
 formed-items L z e room n p s h =
-    formed-below L n (part p (room * L .size) s)
-    ∙ below-same (λ i. L .formed (part (i * L .size) (L .size) (part p (room * L .size) s))) (λ i. L .formed (part (p + z * i) z s)) n
+    formed-below L n (slice p (room * L .size) s)
+    ∙ below-same (λ i. L .wellFormed (slice (i * L .size) (L .size) (slice p (room * L .size) s))) (λ i. L .wellFormed (slice (p + z * i) z s)) n
     (λ i l.
     let q : suc i * L .size ≤ room * L .size = mul-le-mul-right (L .size) (le-trans l h) in
-    ap (L .formed) (part-part p (room * L .size) (i * L .size) (L .size) s (omega arith))
-    ∙ (λ j. L .formed (part (p + i * e j) (e j) s))
-    ∙ ap (λ (k : ℕ). L .formed (part (p + k) z s)) (mul-comm i z))
+    ap (L .wellFormed) (part-part p (room * L .size) (i * L .size) (L .size) s (omega arith))
+    ∙ (λ j. L .wellFormed (slice (p + i * e j) (e j) s))
+    ∙ ap (λ (k : ℕ). L .wellFormed (slice (p + k) z s)) (mul-comm i z))
 
 -- ---- numbers that are 0
 
@@ -77,9 +77,9 @@ module _ (k : ℕ) where
     clear-numbers n (drop k s) (λ i l. getD-drop k s i 0 ∙ h (k + i) (omega arith)),
   )
 
-  pub numbers-zero : (n : ℕ) (s : List ℕ) → every (eqb 0) (readItems (big k) n s) ≡ below (n * k) (λ i. eqb (getD s i 0) 0)
+  pub numbers-zero : (n : ℕ) (s : List ℕ) → all (eqb 0) (readItems (big k) n s) ≡ allBelow (n * k) (λ i. eqb (getD s i 0) 0)
   numbers-zero n s =
-      same-test (every (eqb 0) (readItems (big k) n s)) (below (n * k) (λ i. eqb (getD s i 0) 0))
+      same-test (all (eqb 0) (readItems (big k) n s)) (allBelow (n * k) (λ i. eqb (getD s i 0) 0))
       (λ h. below-of (λ i. eqb (getD s i 0) 0) (n * k) (λ i l. eq-eqb (getD s i 0) 0
       (numbers-clear n s (all-every (λ v. v ≡ 0) (eqb 0) (readItems (big k) n s) (λ v e. sym (eqb-true 0 v e)) h) i l)))
       (λ h. every-all (λ v. v ≡ 0) (eqb 0) (readItems (big k) n s) (λ v e. eq-eqb 0 v (sym e))

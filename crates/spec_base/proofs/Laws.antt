@@ -9,17 +9,17 @@ use lib.Dec.{eqb}
 use lib.ListN.{length, getD, set, take, drop, length-append, length-take, length-drop, length-set, take-append-drop}
 use lib.Seq.{drop-drop, take-at, drop-at, length-take-le, set-getD, set-set, getD-set-same}
 use borrow.Author.Tests.{ltb-true, lt-ltb}
-use Rattle.spec_base.specs.Folds.{one, All}
+use Rattle.spec_base.specs.Folds.{toℕ, All}
 use Rattle.spec_base.proofs.Tests.{and-l, and-r, and-of, one-lt, one-eqb, eqb-one}
 use Rattle.spec_base.specs.Number.{Bytes, number, digits}
-use Rattle.spec_base.specs.Layout.{Layout, part, cover, byte, flag, big, pair, iso, items, readItems, writeItems, formedItems}
+use Rattle.spec_base.specs.Layout.{Layout, slice, overwrite, byte, flag, big, pair, iso, items, readItems, writeItems, wellFormedItems}
 use Rattle.spec_base.proofs.Parts.{bytes-drop, bytes-take, bytes-append, bytes-set, length-part, length-cover, cover-room, cover-same, cover-again, bytes-cover}
 use Rattle.spec_base.proofs.Numbers.{length-digits, bytes-digits, number-digits, number-below, digits-number}
 
 -- bytes of the form that the layout writes, and enough of them
 pub record Stands {A : Type 0} (L : Layout A) (s : List ℕ) : Type 0 where
   pub bytes : Bytes s
-  pub formed : L .formed s ≡ true
+  pub wellFormed : L .wellFormed s ≡ true
   pub room : L .size ≤ length s
 
 -- Ok are the values that the layout can hold
@@ -28,13 +28,13 @@ pub record Lawful {A : Type 0} (L : Layout A) (Ok : A → Type 0) : Type 0 where
   pub unchanged : (s : List ℕ) → Stands L s → L .write (L .read s) s ≡ s
   pub back : (a : A) (s : List ℕ) → Ok a → L .size ≤ length s → L .read (L .write a s) ≡ a
   pub again : (a b : A) (s : List ℕ) → Ok a → Ok b → L .size ≤ length s → L .write a (L .write b s) ≡ L .write a s
-  pub forms : (a : A) (s : List ℕ) → Ok a → L .size ≤ length s → L .formed (L .write a s) ≡ true
+  pub forms : (a : A) (s : List ℕ) → Ok a → L .size ≤ length s → L .wellFormed (L .write a s) ≡ true
   pub bytes : (a : A) (s : List ℕ) → Ok a → Bytes s → Bytes (L .write a s)
   pub holds : (s : List ℕ) → Bytes s → Ok (L .read s)
 
 -- what was written stands
 pub written : {A : Type 0} (L : Layout A) {P : A → Type 0} → Lawful L P → (a : A) (s : List ℕ) → P a → Bytes s → L .size ≤ length s → Stands L (L .write a s)
-written L λL a s o b l = record { bytes = λL .bytes a s o b; formed = λL .forms a s o l; room = rw (λL .keeps a s) l }
+written L λL a s o b l = record { bytes = λL .bytes a s o b; wellFormed = λL .forms a s o l; room = rw (λL .keeps a s) l }
 
 -- ---- one byte, a flag, a number
 
@@ -53,17 +53,17 @@ byte-lawful =
 pub flag-lawful : Lawful flag (λ v. Unit {0})
 flag-lawful =
     record {
-      keeps = λ a s. length-set s 0 (one a);
-      unchanged = λ s h. ap (set s 0) (eqb-one (getD s 0 0) (ltb-true (getD s 0 0) 2 (h .formed))) ∙ set-getD s 0 0;
-      back = λ a s o l. ap (λ (n : ℕ). eqb n 1) (getD-set-same s 0 (one a) 0 l) ∙ one-eqb a;
-      again = λ a b s o q l. set-set s 0 (one b) (one a);
-      forms = λ a s o l. rw (getD-set-same s 0 (one a) 0 l) (lt-ltb (one a) 2 (one-lt a));
-      bytes = λ a s o h. bytes-set s 0 (one a) (omega (arith, one-lt a)) h;
+      keeps = λ a s. length-set s 0 (toℕ a);
+      unchanged = λ s h. ap (set s 0) (eqb-one (getD s 0 0) (ltb-true (getD s 0 0) 2 (h .wellFormed))) ∙ set-getD s 0 0;
+      back = λ a s o l. ap (λ (n : ℕ). eqb n 1) (getD-set-same s 0 (toℕ a) 0 l) ∙ one-eqb a;
+      again = λ a b s o q l. set-set s 0 (toℕ b) (toℕ a);
+      forms = λ a s o l. rw (getD-set-same s 0 (toℕ a) 0 l) (lt-ltb (toℕ a) 2 (one-lt a));
+      bytes = λ a s o h. bytes-set s 0 (toℕ a) (omega (arith, one-lt a)) h;
       holds = λ s h. tt;
     }
 
 module _ (n : ℕ) where
-  front : (v : ℕ) (s : List ℕ) → n ≤ length s → take n (cover (digits n v) s) ≡ digits n v
+  front : (v : ℕ) (s : List ℕ) → n ≤ length s → take n (overwrite (digits n v) s) ≡ digits n v
   front v s l =
       ap (take n) (cover-room (digits n v) s (rw length-digits l)) ∙ take-at (digits n v) (drop (length (digits n v)) s) n (length-digits n v)
 
@@ -73,7 +73,7 @@ module _ (n : ℕ) where
         keeps = λ a s. length-cover (digits n a) s;
         unchanged = λ s h.
             let e : length (take n s) ≡ n = length-take-le n s (h .room) in
-            ap (λ (l : List ℕ). cover l s) (ap (λ (k : ℕ). digits k (number (take n s))) (sym e) ∙ digits-number (take n s) (bytes-take n s (h .bytes)))
+            ap (λ (l : List ℕ). overwrite l s) (ap (λ (k : ℕ). digits k (number (take n s))) (sym e) ∙ digits-number (take n s) (bytes-take n s (h .bytes)))
             ∙ cover-same n s;
         back = λ a s o l. ap number (front a s l) ∙ number-digits n a o;
         again = λ a b s o q l. cover-again (digits n a) (digits n b) s (length-digits n a ∙ sym (length-digits n b));
@@ -99,14 +99,14 @@ module _ (k : ℕ) (x y s : List ℕ) (e : length x ≡ length (take k s)) (l : 
   drop-seam = drop-at x y k seam
 
 -- the first k, the next m and the rest
-pub cut : (k m : ℕ) (s : List ℕ) → take k s ++ (part k m s ++ drop (k + m) s) ≡ s
+pub cut : (k m : ℕ) (s : List ℕ) → take k s ++ (slice k m s ++ drop (k + m) s) ≡ s
 cut k m s =
-    ap (λ (r : List ℕ). take k s ++ (part k m s ++ r)) (sym (drop-drop m k s))
+    ap (λ (r : List ℕ). take k s ++ (slice k m s ++ r)) (sym (drop-drop m k s))
     ∙ ap (λ (r : List ℕ). take k s ++ r) (take-append-drop m (drop k s))
     ∙ take-append-drop k s
 
 -- the three cuts of a list that was put together from three, as long as the cuts of another
-module _ (k m : ℕ) (x y s : List ℕ) (ex : length x ≡ length (take k s)) (ey : length y ≡ length (part k m s)) where
+module _ (k m : ℕ) (x y s : List ℕ) (ex : length x ≡ length (take k s)) (ey : length y ≡ length (slice k m s)) where
   pub cuts-length : length (x ++ (y ++ drop (k + m) s)) ≡ length s
   cuts-length = simp length-append (simp (length-append, ← ex, ← ey) at (ap length (cut k m s)))
 
@@ -120,7 +120,7 @@ module _ (k m : ℕ) (x y s : List ℕ) (ex : length x ≡ length (take k s)) (e
     cut-length : length y ≡ m
     cut-length = ey ∙ length-part k m s l
 
-    pub cut-second : part k m (x ++ (y ++ drop (k + m) s)) ≡ y
+    pub cut-second : slice k m (x ++ (y ++ drop (k + m) s)) ≡ y
     cut-second = ap (take m) cut-behind ∙ take-at y (drop (k + m) s) m cut-length
 
     pub cut-rest : drop (k + m) (x ++ (y ++ drop (k + m) s)) ≡ drop (k + m) s
@@ -132,15 +132,15 @@ module _ {A B : Type 0} (L : Layout A) (M : Layout B) where
   stands-first s h =
       record {
         bytes = bytes-take (L .size) s (h .bytes);
-        formed = and-l (L .formed (take (L .size) s)) (M .formed (part (L .size) (M .size) s)) (h .formed);
+        wellFormed = and-l (L .wellFormed (take (L .size) s)) (M .wellFormed (slice (L .size) (M .size) s)) (h .wellFormed);
         room = let l : L .size + M .size ≤ length s = h .room in simp length-take (omega arith);
       }
 
-  pub stands-second : (s : List ℕ) → Stands (pair L M) s → Stands M (part (L .size) (M .size) s)
+  pub stands-second : (s : List ℕ) → Stands (pair L M) s → Stands M (slice (L .size) (M .size) s)
   stands-second s h =
       record {
         bytes = bytes-take (M .size) (drop (L .size) s) (bytes-drop (L .size) s (h .bytes));
-        formed = and-r (L .formed (take (L .size) s)) (M .formed (part (L .size) (M .size) s)) (h .formed);
+        wellFormed = and-r (L .wellFormed (take (L .size) s)) (M .wellFormed (slice (L .size) (M .size) s)) (h .wellFormed);
         room = le-of-eq (sym (length-part (L .size) (M .size) s (h .room)));
       }
 
@@ -149,24 +149,24 @@ module _ {A B : Type 0} (L : Layout A) (M : Layout B) {P : A → Type 0} {Q : B 
   x v s = L .write (v .0) (take (L .size) s)
 
   abbrev y : A × B → List ℕ → List ℕ
-  y v s = M .write (v .1) (part (L .size) (M .size) s)
+  y v s = M .write (v .1) (slice (L .size) (M .size) s)
 
   ex : (v : A × B) (s : List ℕ) → length (x v s) ≡ length (take (L .size) s)
   ex v s = λL .keeps (v .0) (take (L .size) s)
 
-  ey : (v : A × B) (s : List ℕ) → length (y v s) ≡ length (part (L .size) (M .size) s)
-  ey v s = λM .keeps (v .1) (part (L .size) (M .size) s)
+  ey : (v : A × B) (s : List ℕ) → length (y v s) ≡ length (slice (L .size) (M .size) s)
+  ey v s = λM .keeps (v .1) (slice (L .size) (M .size) s)
 
   l₁ : (s : List ℕ) → L .size + M .size ≤ length s → L .size ≤ length (take (L .size) s)
   l₁ s l = simp length-take (omega arith)
 
-  l₂ : (s : List ℕ) → L .size + M .size ≤ length s → M .size ≤ length (part (L .size) (M .size) s)
+  l₂ : (s : List ℕ) → L .size + M .size ≤ length s → M .size ≤ length (slice (L .size) (M .size) s)
   l₂ s l = le-of-eq (sym (length-part (L .size) (M .size) s l))
 
   c₁ : (v : A × B) (s : List ℕ) → L .size + M .size ≤ length s → take (L .size) (pair L M .write v s) ≡ x v s
   c₁ v s l = cut-first (L .size) (M .size) (x v s) (y v s) s (ex v s) (ey v s) l
 
-  c₂ : (v : A × B) (s : List ℕ) → L .size + M .size ≤ length s → part (L .size) (M .size) (pair L M .write v s) ≡ y v s
+  c₂ : (v : A × B) (s : List ℕ) → L .size + M .size ≤ length s → slice (L .size) (M .size) (pair L M .write v s) ≡ y v s
   c₂ v s l = cut-second (L .size) (M .size) (x v s) (y v s) s (ex v s) (ey v s) l
 
   -- a second write covers a first where it does so for each of the two
@@ -184,30 +184,30 @@ module _ {A B : Type 0} (L : Layout A) (M : Layout B) {P : A → Type 0} {Q : B 
         keeps = λ v s. cuts-length (L .size) (M .size) (x v s) (y v s) s (ex v s) (ey v s);
         unchanged = λ s h.
             (λ i. λL .unchanged (take (L .size) s) (stands-first L M s h) i
-            ++ (λM .unchanged (part (L .size) (M .size) s) (stands-second L M s h) i ++ drop (L .size + M .size) s))
+            ++ (λM .unchanged (slice (L .size) (M .size) s) (stands-second L M s h) i ++ drop (L .size + M .size) s))
             ∙ cut (L .size) (M .size) s;
         back = λ v s o l. λ i. (
           (ap (L .read) (c₁ v s l) ∙ λL .back (v .0) (take (L .size) s) (o .0) (l₁ s l)) i,
-          (ap (M .read) (c₂ v s l) ∙ λM .back (v .1) (part (L .size) (M .size) s) (o .1) (l₂ s l)) i,
+          (ap (M .read) (c₂ v s l) ∙ λM .back (v .1) (slice (L .size) (M .size) s) (o .1) (l₂ s l)) i,
         );
         again = λ v w s o q l.
-            pair-again v w s l (λL .again (v .0) (w .0) (take (L .size) s) (o .0) (q .0) (l₁ s l)) (λM .again (v .1) (w .1) (part (L .size) (M .size) s) (o .1) (q .1) (l₂ s l));
+            pair-again v w s l (λL .again (v .0) (w .0) (take (L .size) s) (o .0) (q .0) (l₁ s l)) (λM .again (v .1) (w .1) (slice (L .size) (M .size) s) (o .1) (q .1) (l₂ s l));
         forms = λ v s o l.
-            and-of (L .formed (take (L .size) (pair L M .write v s))) (M .formed (part (L .size) (M .size) (pair L M .write v s)))
-            (ap (L .formed) (c₁ v s l) ∙ λL .forms (v .0) (take (L .size) s) (o .0) (l₁ s l))
-            (ap (M .formed) (c₂ v s l) ∙ λM .forms (v .1) (part (L .size) (M .size) s) (o .1) (l₂ s l));
+            and-of (L .wellFormed (take (L .size) (pair L M .write v s))) (M .wellFormed (slice (L .size) (M .size) (pair L M .write v s)))
+            (ap (L .wellFormed) (c₁ v s l) ∙ λL .forms (v .0) (take (L .size) s) (o .0) (l₁ s l))
+            (ap (M .wellFormed) (c₂ v s l) ∙ λM .forms (v .1) (slice (L .size) (M .size) s) (o .1) (l₂ s l));
         bytes = λ v s o h.
             bytes-append (x v s) (y v s ++ drop (L .size + M .size) s)
             (λL .bytes (v .0) (take (L .size) s) (o .0) (bytes-take (L .size) s h))
-            (bytes-append (y v s) (drop (L .size + M .size) s) (λM .bytes (v .1) (part (L .size) (M .size) s) (o .1) (bytes-take (M .size) (drop (L .size) s) (bytes-drop (L .size) s h))) (bytes-drop (L .size + M .size) s h));
-        holds = λ s h. (λL .holds (take (L .size) s) (bytes-take (L .size) s h), λM .holds (part (L .size) (M .size) s) (bytes-take (M .size) (drop (L .size) s) (bytes-drop (L .size) s h)));
+            (bytes-append (y v s) (drop (L .size + M .size) s) (λM .bytes (v .1) (slice (L .size) (M .size) s) (o .1) (bytes-take (M .size) (drop (L .size) s) (bytes-drop (L .size) s h))) (bytes-drop (L .size + M .size) s h));
+        holds = λ s h. (λL .holds (take (L .size) s) (bytes-take (L .size) s h), λM .holds (slice (L .size) (M .size) s) (bytes-take (M .size) (drop (L .size) s) (bytes-drop (L .size) s h)));
       }
 
 -- ---- a value told by another
 
 module _ {A B : Type 0} (L : Layout A) (to : A → B) (from : B → A) where
   pub stands-iso : (s : List ℕ) → Stands (iso L to from) s → Stands L s
-  stands-iso s h = record { bytes = h .bytes; formed = h .formed; room = h .room }
+  stands-iso s h = record { bytes = h .bytes; wellFormed = h .wellFormed; room = h .room }
 
   module _ {P : A → Type 0} {Q : B → Type 0} (λL : Lawful L P)
       (there : (a : A) → P a → Q (to a)) (here : (b : B) → Q b → P (from b))
@@ -238,14 +238,14 @@ module _ {A : Type 0} (L : Layout A) where
   -- n items stand at the front of the bytes
   pub record StandItems (n : ℕ) (s : List ℕ) : Type 0 where
     pub bytes : Bytes s
-    pub formed : formedItems L n s ≡ true
+    pub wellFormed : wellFormedItems L n s ≡ true
     pub room : n * L .size ≤ length s
 
   pub stands-item : (n : ℕ) (s : List ℕ) → StandItems (suc n) s → Stands L (take (L .size) s)
   stands-item n s h =
       record {
         bytes = bytes-take (L .size) s (h .bytes);
-        formed = and-l (L .formed (take (L .size) s)) (formedItems L n (drop (L .size) s)) (h .formed);
+        wellFormed = and-l (L .wellFormed (take (L .size) s)) (wellFormedItems L n (drop (L .size) s)) (h .wellFormed);
         room = let l : n * L .size + L .size ≤ length s = omega (arith, h .room) in simp length-take (omega arith);
       }
 
@@ -253,13 +253,13 @@ module _ {A : Type 0} (L : Layout A) where
   stand-rest n s h =
       record {
         bytes = bytes-drop (L .size) s (h .bytes);
-        formed = and-r (L .formed (take (L .size) s)) (formedItems L n (drop (L .size) s)) (h .formed);
+        wellFormed = and-r (L .wellFormed (take (L .size) s)) (wellFormedItems L n (drop (L .size) s)) (h .wellFormed);
         room = let l : n * L .size + L .size ≤ length s = omega (arith, h .room) in simp length-drop (omega arith);
       }
 
   pub stand-items : (room n : ℕ) (s : List ℕ) → n ≤ room → Stands (items L room n) s → StandItems n s
   stand-items room n s l h =
-      record { bytes = h .bytes; formed = h .formed; room = le-trans (mul-le-mul-right (L .size) l) (h .room) }
+      record { bytes = h .bytes; wellFormed = h .wellFormed; room = le-trans (mul-le-mul-right (L .size) l) (h .room) }
 
 module _ {A : Type 0} (L : Layout A) {P : A → Type 0} (λL : Lawful L P) where
   pub items-keeps : (xs : List A) (s : List ℕ) → length (writeItems L xs s) ≡ length s
@@ -312,12 +312,12 @@ module _ {A : Type 0} (L : Layout A) {P : A → Type 0} (λL : Lawful L P) where
       (ap (L .read) (first-part x xs s l) ∙ λL .back x (take (L .size) s) (o .0) (first-room x xs s l)) i
       ∷ (ap (readItems L (length xs)) (rest-part x xs s l) ∙ items-back xs (drop (L .size) s) (o .1) (rest-room x xs s l)) i
 
-  pub items-forms : (xs : List A) (s : List ℕ) → All P xs → length xs * L .size ≤ length s → formedItems L (length xs) (writeItems L xs s) ≡ true
+  pub items-forms : (xs : List A) (s : List ℕ) → All P xs → length xs * L .size ≤ length s → wellFormedItems L (length xs) (writeItems L xs s) ≡ true
   items-forms [] s o l = refl
   items-forms (x ∷ xs) s o l =
-      and-of (L .formed (take (L .size) (writeItems L (x ∷ xs) s))) (formedItems L (length xs) (drop (L .size) (writeItems L (x ∷ xs) s)))
-      (ap (L .formed) (first-part x xs s l) ∙ λL .forms x (take (L .size) s) (o .0) (first-room x xs s l))
-      (ap (formedItems L (length xs)) (rest-part x xs s l) ∙ items-forms xs (drop (L .size) s) (o .1) (rest-room x xs s l))
+      and-of (L .wellFormed (take (L .size) (writeItems L (x ∷ xs) s))) (wellFormedItems L (length xs) (drop (L .size) (writeItems L (x ∷ xs) s)))
+      (ap (L .wellFormed) (first-part x xs s l) ∙ λL .forms x (take (L .size) s) (o .0) (first-room x xs s l))
+      (ap (wellFormedItems L (length xs)) (rest-part x xs s l) ∙ items-forms xs (drop (L .size) s) (o .1) (rest-room x xs s l))
 
   -- a list that is as long or longer covers what another wrote
   pub items-again : (xs ys : List A) (s : List ℕ) → All P xs → All P ys → length ys ≤ length xs → length xs * L .size ≤ length s → writeItems L xs (writeItems L ys s) ≡ writeItems L xs s
@@ -340,7 +340,7 @@ module _ {A : Type 0} (L : Layout A) {P : A → Type 0} (λL : Lawful L P) where
             subst (λ (k : ℕ). readItems L k (writeItems L xs s) ≡ xs) (o .0) (items-back xs s (o .1) (items-fit room n xs s h (o .0) l));
         again = λ xs ys s o q l. items-again xs ys s (o .1) (q .1) (le-of-eq (q .0 ∙ sym (o .0))) (items-fit room n xs s h (o .0) l);
         forms = λ xs s o l.
-            subst (λ (k : ℕ). formedItems L k (writeItems L xs s) ≡ true) (o .0) (items-forms xs s (o .1) (items-fit room n xs s h (o .0) l));
+            subst (λ (k : ℕ). wellFormedItems L k (writeItems L xs s) ≡ true) (o .0) (items-forms xs s (o .1) (items-fit room n xs s h (o .0) l));
         bytes = λ xs s o b. items-bytes xs s (o .1) b;
         holds = λ s b. (length-readItems L n s, items-holds n s b);
       }

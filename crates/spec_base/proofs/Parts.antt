@@ -7,7 +7,7 @@ use mathlib.Core.List.{List, [], _∷_, _++_, append-assoc}
 use lib.ListN.{length, set, take, drop, length-drop, take-append-drop}
 use lib.Seq.{take-take, drop-drop, take-add, take-nil, length-take-le, getD-drop}
 use Rattle.spec_base.specs.Number.{Bytes}
-use Rattle.spec_base.specs.Layout.{part, over, cover}
+use Rattle.spec_base.specs.Layout.{slice, modifyAt, overwrite}
 
 pub bytes-drop : (n : ℕ) (s : List ℕ) → Bytes s → Bytes (drop n s)
 bytes-drop n s h i = rw getD-drop (h (n + i))
@@ -37,7 +37,7 @@ drop-take (suc q) k [] = ap (drop (suc q)) (take-nil (suc q + k)) ∙ sym (take-
 drop-take (suc q) k (x ∷ s) = ap (λ (n : ℕ). drop (suc q) (take n (x ∷ s))) (suc-add q k) ∙ drop-take q k s
 
 -- a part of a part
-pub part-part : (p m q n : ℕ) (s : List ℕ) → q + n ≤ m → part q n (part p m s) ≡ part (p + q) n s
+pub part-part : (p m q n : ℕ) (s : List ℕ) → q + n ≤ m → slice q n (slice p m s) ≡ slice (p + q) n s
 part-part p m q n s h =
     let e : m ≡ q + (m - q) = omega arith in
     ap (λ (k : ℕ). take n (drop q (take k (drop p s)))) e
@@ -47,63 +47,63 @@ part-part p m q n s h =
 
 module _ (f : List ℕ → List ℕ) where
   -- a change of what is behind the first a is a change of the whole
-  pub over-behind : (a b n : ℕ) (s : List ℕ) → take a s ++ over b n f (drop a s) ≡ over (a + b) n f s
+  pub over-behind : (a b n : ℕ) (s : List ℕ) → take a s ++ modifyAt b n f (drop a s) ≡ modifyAt (a + b) n f s
   over-behind a b n s =
-      sym (append-assoc (take a s) (take b (drop a s)) (f (part b n (drop a s)) ++ drop (b + n) (drop a s)))
-      ∙ ap (λ (r : List ℕ). r ++ (f (part b n (drop a s)) ++ drop (b + n) (drop a s))) (sym (take-add a b s))
+      sym (append-assoc (take a s) (take b (drop a s)) (f (slice b n (drop a s)) ++ drop (b + n) (drop a s)))
+      ∙ ap (λ (r : List ℕ). r ++ (f (slice b n (drop a s)) ++ drop (b + n) (drop a s))) (sym (take-add a b s))
       ∙ ap (λ (r : List ℕ). take (a + b) s ++ (f (take n r) ++ drop (b + n) (drop a s))) (drop-drop b a s)
-      ∙ ap (λ (r : List ℕ). take (a + b) s ++ (f (part (a + b) n s) ++ r)) (drop-drop (b + n) a s ∙ ap (λ (k : ℕ). drop k s) (sym (add-assoc a b n)))
+      ∙ ap (λ (r : List ℕ). take (a + b) s ++ (f (slice (a + b) n s) ++ r)) (drop-drop (b + n) a s ∙ ap (λ (k : ℕ). drop k s) (sym (add-assoc a b n)))
 
   -- a change of the first m, at a part of them, is a change of the whole
-  pub over-front : (m q n : ℕ) (s : List ℕ) → q + n ≤ m → over q n f (take m s) ++ drop m s ≡ over q n f s
+  pub over-front : (m q n : ℕ) (s : List ℕ) → q + n ≤ m → modifyAt q n f (take m s) ++ drop m s ≡ modifyAt q n f s
   over-front m q n s h =
       let e : m ≡ q + n + (m - (q + n)) = omega arith in
-      append-assoc (take q (take m s)) (f (part q n (take m s)) ++ drop (q + n) (take m s)) (drop m s)
-      ∙ ap (λ (r : List ℕ). r ++ (f (part q n (take m s)) ++ drop (q + n) (take m s) ++ drop m s)) (take-take q m s (omega arith))
+      append-assoc (take q (take m s)) (f (slice q n (take m s)) ++ drop (q + n) (take m s)) (drop m s)
+      ∙ ap (λ (r : List ℕ). r ++ (f (slice q n (take m s)) ++ drop (q + n) (take m s) ++ drop m s)) (take-take q m s (omega arith))
       ∙ ap (λ (r : List ℕ). take q s ++ r)
-      (append-assoc (f (part q n (take m s))) (drop (q + n) (take m s)) (drop m s)
-      ∙ ap (λ (r : List ℕ). f r ++ (drop (q + n) (take m s) ++ drop m s)) (part-part 0 m q n s h ∙ ap (λ (k : ℕ). part k n s) (zero-add q))
-      ∙ ap (λ (r : List ℕ). f (part q n s) ++ r)
+      (append-assoc (f (slice q n (take m s))) (drop (q + n) (take m s)) (drop m s)
+      ∙ ap (λ (r : List ℕ). f r ++ (drop (q + n) (take m s) ++ drop m s)) (part-part 0 m q n s h ∙ ap (λ (k : ℕ). slice k n s) (zero-add q))
+      ∙ ap (λ (r : List ℕ). f (slice q n s) ++ r)
       (ap (λ (k : ℕ). drop (q + n) (take k s) ++ drop k s) e
       ∙ ap (λ (r : List ℕ). r ++ drop (q + n + (m - (q + n))) s) (drop-take (q + n) (m - (q + n)) s)
       ∙ ap (λ (r : List ℕ). take (m - (q + n)) (drop (q + n) s) ++ r) (sym (drop-drop (m - (q + n)) (q + n) s))
       ∙ take-append-drop (m - (q + n)) (drop (q + n) s)))
 
   -- a change of a part of a part
-  pub over-over : (p m q n : ℕ) (s : List ℕ) → q + n ≤ m → over p m (over q n f) s ≡ over (p + q) n f s
+  pub over-over : (p m q n : ℕ) (s : List ℕ) → q + n ≤ m → modifyAt p m (modifyAt q n f) s ≡ modifyAt (p + q) n f s
   over-over p m q n s h =
-      ap (λ (r : List ℕ). take p s ++ (over q n f (part p m s) ++ r)) (sym (drop-drop m p s))
+      ap (λ (r : List ℕ). take p s ++ (modifyAt q n f (slice p m s) ++ r)) (sym (drop-drop m p s))
       ∙ ap (λ (r : List ℕ). take p s ++ r) (over-front m q n (drop p s) h)
       ∙ over-behind p q n s
 
-pub length-part : (p n : ℕ) (s : List ℕ) → p + n ≤ length s → length (part p n s) ≡ n
+pub length-part : (p n : ℕ) (s : List ℕ) → p + n ≤ length s → length (slice p n s) ≡ n
 length-part p n s h = length-take-le n (drop p s) (simp length-drop (omega arith))
 
 -- ---- bytes laid over the front
 
-pub length-cover : (bs s : List ℕ) → length (cover bs s) ≡ length s
-unfolding cover
+pub length-cover : (bs s : List ℕ) → length (overwrite bs s) ≡ length s
+unfolding overwrite
 length-cover [] s = refl
 length-cover (b ∷ bs) [] = refl
 length-cover (b ∷ bs) (x ∷ s) = ap suc (length-cover bs s)
 
 -- where there is room for them, they stand before what is behind them
-pub cover-room : (bs s : List ℕ) → length bs ≤ length s → cover bs s ≡ bs ++ drop (length bs) s
-unfolding cover
+pub cover-room : (bs s : List ℕ) → length bs ≤ length s → overwrite bs s ≡ bs ++ drop (length bs) s
+unfolding overwrite
 cover-room [] s h = refl
 cover-room (b ∷ bs) [] h = absurd (not-suc-le-zero h)
 cover-room (b ∷ bs) (x ∷ s) h = ap (λ (r : List ℕ). b ∷ r) (cover-room bs s (le-of-suc-le-suc h))
 
 -- bytes that stand there already change nothing
-pub cover-same : (n : ℕ) (s : List ℕ) → cover (take n s) s ≡ s
-unfolding cover
+pub cover-same : (n : ℕ) (s : List ℕ) → overwrite (take n s) s ≡ s
+unfolding overwrite
 cover-same zero s = refl
 cover-same (suc n) [] = refl
 cover-same (suc n) (x ∷ s) = ap (λ (r : List ℕ). x ∷ r) (cover-same n s)
 
 -- as many bytes laid over others hide them
-pub cover-again : (bs cs s : List ℕ) → length bs ≡ length cs → cover bs (cover cs s) ≡ cover bs s
-unfolding cover
+pub cover-again : (bs cs s : List ℕ) → length bs ≡ length cs → overwrite bs (overwrite cs s) ≡ overwrite bs s
+unfolding overwrite
 cover-again [] [] s e = refl
 cover-again [] (c ∷ cs) s e = let z : 0 ≡ suc (length cs) = e in absurd (omega arith)
 cover-again (b ∷ bs) [] s e = let z : suc (length bs) ≡ 0 = e in absurd (omega arith)
@@ -112,8 +112,8 @@ cover-again (b ∷ bs) (c ∷ cs) (x ∷ s) e =
     let z : suc (length bs) ≡ suc (length cs) = e in
     ap (λ (r : List ℕ). b ∷ r) (cover-again bs cs s (omega arith))
 
-pub bytes-cover : (bs s : List ℕ) → Bytes bs → Bytes s → Bytes (cover bs s)
-unfolding cover
+pub bytes-cover : (bs s : List ℕ) → Bytes bs → Bytes s → Bytes (overwrite bs s)
+unfolding overwrite
 bytes-cover [] s h k i = k i
 bytes-cover (b ∷ bs) [] h k i = omega arith
 bytes-cover (b ∷ bs) (x ∷ s) h k zero = h 0

@@ -6,7 +6,7 @@ use Prim.Native.Nat.{ℕ, zero, suc, _≤_, _<_}
 use native.Mathlib.Decide.{ℕ-discrete, decLt}
 use native.Mathlib.Omega.{arith}
 use lib.Dec.{eqb}
-use Rattle.spec_base.specs.Folds.{one, implies}
+use Rattle.spec_base.specs.Folds.{toℕ, implies}
 
 -- a test passes or fails, and which is known
 pub either : (t : Bool) → (t ≡ true) ⊎ (t ≡ false)
@@ -132,15 +132,15 @@ and-not false b h e = differs (sym e)
 
 -- ---- the number of a test
 
-pub one-lt : (t : Bool) → one t < 2
+pub one-lt : (t : Bool) → toℕ t < 2
 one-lt true = omega arith
 one-lt false = omega arith
 
-pub one-eqb : (t : Bool) → eqb (one t) 1 ≡ t
+pub one-eqb : (t : Bool) → eqb (toℕ t) 1 ≡ t
 one-eqb true = refl
 one-eqb false = refl
 
-pub eqb-one : (n : ℕ) → n < 2 → one (eqb n 1) ≡ n
+pub eqb-one : (n : ℕ) → n < 2 → toℕ (eqb n 1) ≡ n
 eqb-one zero l = refl
 eqb-one (suc zero) l = refl
 eqb-one (suc (suc n)) l = absurd (omega arith)

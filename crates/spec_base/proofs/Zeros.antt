@@ -7,7 +7,7 @@ use mathlib.Core.Path.{_≡_, sym, ap, _∙_}
 use mathlib.Core.List.{List, _++_, append-assoc}
 use lib.ListN.{length, set, take, drop, replicate, length-replicate, getD-replicate, replicate-append-replicate, length-drop}
 use lib.Seq.{drop-drop, length-take-le, take-all, paste, paste-zero, paste-suc, length-paste}
-use Rattle.spec_base.specs.Layout.{Layout, part, over, writeItems}
+use Rattle.spec_base.specs.Layout.{Layout, slice, modifyAt, writeItems}
 use Rattle.spec_base.proofs.Parts.{over-over}
 use Rattle.spec_base.proofs.Copies.{Full}
 
@@ -32,18 +32,18 @@ module _ (s₀ : List ℕ) (at count : ℕ) where
         ∙ paste-suc s₀ at (replicate count 0) i 0 (omega arith) (rw length-replicate l)
         ∙ ap clearing (sym (add-one i))
 
-    pub clear-all : clearing count ≡ over at count (λ t. replicate count 0) s₀
+    pub clear-all : clearing count ≡ modifyAt at count (λ t. replicate count 0) s₀
     clear-all =
         append-assoc (take at s₀) (take count (replicate count 0)) (drop (at + count) s₀)
         ∙ ap (λ (r : List ℕ). take at s₀ ++ (r ++ drop (at + count) s₀)) (take-all count (replicate count 0) (le-of-eq (length-replicate count 0)))
 
 -- ---- a change of a part that reaches only its first bytes
 
-pub over-start : (f : List ℕ → List ℕ) (x : List ℕ) (p m j : ℕ) (s : List ℕ) → j ≤ m → f (part p m s) ≡ x ++ drop j (part p m s) → over p m f s ≡ over p j (λ t. x) s
+pub over-start : (f : List ℕ → List ℕ) (x : List ℕ) (p m j : ℕ) (s : List ℕ) → j ≤ m → f (slice p m s) ≡ x ++ drop j (slice p m s) → modifyAt p m f s ≡ modifyAt p j (λ t. x) s
 over-start f x p m j s l e =
-    ap (λ (r : List ℕ). take p s ++ (r ++ drop (p + m) s)) (e ∙ ap (λ (k : ℕ). x ++ drop k (part p m s)) (sym (zero-add j)))
+    ap (λ (r : List ℕ). take p s ++ (r ++ drop (p + m) s)) (e ∙ ap (λ (k : ℕ). x ++ drop k (slice p m s)) (sym (zero-add j)))
     ∙ over-over (λ t. x) p m 0 j s (omega arith)
-    ∙ ap (λ (k : ℕ). over k j (λ t. x) s) (add-zero p)
+    ∙ ap (λ (k : ℕ). modifyAt k j (λ t. x) s) (add-zero p)
 
 -- ---- items that are written as zeros
 

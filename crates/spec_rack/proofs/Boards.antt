@@ -9,7 +9,7 @@ use native.Mathlib.Omega.{arith}
 use borrow.Author.Tests.{eq-eqb, ne-eqb, eqb-true, eqb-false, leb-true, le-leb, ltb-true, lt-ltb}
 use lib.Dec.{eqb, leb, ltb}
 use lib.Pow.{pow-pos, shr-shr, shr-lt, pow-mono}
-use Rattle.spec_base.specs.Folds.{one, below, implies}
+use Rattle.spec_base.specs.Folds.{toℕ, allBelow, implies}
 use Rattle.spec_base.proofs.Tests.{either, differs, same-or-not, lt-or-le, and-l, and-r, and-of, implied, implies-of}
 use Rattle.spec_base.proofs.Folds.{below-at, below-of, count-le, count-mono, count-more, count-none}
 use Rattle.spec_rack.specs.Boards.{places, bit, member, empty, insert, remove, subset, boardsOnly, firstFrom, lowest, size}
@@ -82,19 +82,19 @@ sub-same s i h = from (bit-lt (s - 2 ^ i) i)
 
 -- ---- members
 
-pub bit-member : (s i : ℕ) → bit s i ≡ one (member s i)
+pub bit-member : (s i : ℕ) → bit s i ≡ toℕ (member s i)
 unfolding member
 bit-member s i =
-    ⊎-elim (λ e. eqb-true (bit s i) 1 e ∙ sym (ap one e))
+    ⊎-elim (λ e. eqb-true (bit s i) 1 e ∙ sym (ap toℕ e))
     (λ e. let ne : bit s i ≡ 1 → ⊥ = eqb-false (bit s i) 1 e in
-    omega (arith, bit-lt s i) ∙ sym (ap one e))
+    omega (arith, bit-lt s i) ∙ sym (ap toℕ e))
     (either (eqb (bit s i) 1))
 
 pub bit-in : (s i : ℕ) → member s i ≡ true → bit s i ≡ 1
-bit-in s i h = bit-member s i ∙ ap one h
+bit-in s i h = bit-member s i ∙ ap toℕ h
 
 pub bit-out : (s i : ℕ) → member s i ≡ false → bit s i ≡ 0
-bit-out s i h = bit-member s i ∙ ap one h
+bit-out s i h = bit-member s i ∙ ap toℕ h
 
 pub in-of-bit : (s i : ℕ) → bit s i ≡ 1 → member s i ≡ true
 unfolding member
@@ -111,7 +111,7 @@ same-member a b i e = ap (λ (x : ℕ). eqb x 1) e
 -- two sets with the same members are the same number
 pub same-members : (k a b : ℕ) → a < 2 ^ k → b < 2 ^ k → ((i : ℕ) → i < k → member a i ≡ member b i) → a ≡ b
 same-members k a b ha hb e =
-    bits-ext k a b ha hb (λ i l. bit-member a i ∙ ap one (e i l) ∙ sym (bit-member b i))
+    bits-ext k a b ha hb (λ i l. bit-member a i ∙ ap toℕ (e i l) ∙ sym (bit-member b i))
 
 pub member-empty : (i : ℕ) → member empty i ≡ false
 member-empty i = out-of-bit 0 i (bit-high 0 i (pow-pos i))
@@ -259,19 +259,19 @@ board n s i = implies (member s i) (leb 1 i && leb i n)
 
 pub boards-lt : (n s : ℕ) → boardsOnly n s ≡ true → s < 2 ^ places
 unfolding boardsOnly
-boards-lt n s h = ltb-true s (2 ^ places) (and-l (ltb s (2 ^ places)) (below places (board n s)) h)
+boards-lt n s h = ltb-true s (2 ^ places) (and-l (ltb s (2 ^ places)) (allBelow places (board n s)) h)
 
 pub boards-at : (n s : ℕ) → boardsOnly n s ≡ true → (i : ℕ) → member s i ≡ true → (1 ≤ i) × (i ≤ n)
 unfolding boardsOnly
 boards-at n s h i m =
     let l = member-lt places s i (boards-lt n s h) m in
-    let b = implied (member s i) (leb 1 i && leb i n) (below-at (board n s) places (and-r (ltb s (2 ^ places)) (below places (board n s)) h) i l) m in
+    let b = implied (member s i) (leb 1 i && leb i n) (below-at (board n s) places (and-r (ltb s (2 ^ places)) (allBelow places (board n s)) h) i l) m in
     (leb-true 1 i (and-l (leb 1 i) (leb i n) b), leb-true i n (and-r (leb 1 i) (leb i n) b))
 
 pub boards-of : (n s : ℕ) → s < 2 ^ places → ((i : ℕ) → member s i ≡ true → (1 ≤ i) × (i ≤ n)) → boardsOnly n s ≡ true
 unfolding boardsOnly
 boards-of n s h f =
-    and-of (ltb s (2 ^ places)) (below places (board n s)) (lt-ltb s (2 ^ places) h)
+    and-of (ltb s (2 ^ places)) (allBelow places (board n s)) (lt-ltb s (2 ^ places) h)
     (below-of (board n s) places (λ i l. implies-of (member s i) (leb 1 i && leb i n)
     (λ m. let w = f i m in and-of (leb 1 i) (leb i n) (le-leb 1 i (w .0)) (le-leb i n (w .1)))))
 
@@ -279,7 +279,7 @@ pub boards-empty : (n : ℕ) → boardsOnly n empty ≡ true
 boards-empty n = boards-of n empty (omega arith) (λ i m. differs (sym m ∙ member-empty i))
 
 pub boards-insert : (n s i : ℕ) → i < places → 1 ≤ i → i ≤ n → boardsOnly n s ≡ true → boardsOnly n (insert s i) ≡ true
-boards-insert n s i l one top h =
+boards-insert n s i l toℕ top h =
     boards-of n (insert s i) (insert-lt places s i l (boards-lt n s h))
     (λ j m. ⊎-elim (λ (e : j ≡ i). (omega arith, omega arith))
     (λ ne. boards-at n s h j (sym (insert-other s i j ne) ∙ m)) (same-or-not j i))

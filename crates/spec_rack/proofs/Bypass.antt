@@ -9,14 +9,14 @@ use Prim.Native.Nat.{ℕ, zero, suc, _+_, _-_, _<_, _≤_}
 use native.Mathlib.Omega.{arith}
 use borrow.Author.Tests.{eq-eqb, ne-eqb, leb-true}
 use lib.Dec.{leb}
-use Rattle.spec_base.specs.Folds.{one, every, countBelow}
+use Rattle.spec_base.specs.Folds.{toℕ, all, countBelow}
 use Rattle.spec_base.proofs.Tests.{either, same-or-not, lt-or-le, and-l, and-r, and-left, and-right}
 use Rattle.spec_base.proofs.Folds.{count-none, count-all, count-same, count-mono, count-more}
 use Rattle.spec_wire.specs.declared.Check.{Check}
 use Rattle.spec_rack.specs.Boards.{places, member}
 use Rattle.spec_rack.specs.Claims.{Claims, waiting, barring, raised, lowered}
-use Rattle.spec_rack.specs.Moves.{Move, mover, change, settled, made, after, counted, lowers, boardMoves, only, others, Bypass}
-use Rattle.spec_rack.specs.Moves.Move.{raise, lower}
+use Rattle.spec_rack.specs.Bypass.{Move, mover, moved, settled, claimsAfterMove, claimsAfter, lowersCounted, lowers, boardMoves, only, others, Bypass}
+use Rattle.spec_rack.specs.Bypass.Move.{raise, lower}
 use Rattle.spec_rack.proofs.Boards.{member-empty, insert-keeps, insert-same, remove-other}
 use Rattle.spec_rack.proofs.Claims.{SoundClaims, claims-facts, raised-sound, lowered-sound, raise-elim, lower-elim, raise-pass, raised-waiting, raised-barring, lowered-other, lowered-waiting, lowered-own}
 
@@ -34,27 +34,27 @@ record First (n : ℕ) (m : Move) (ms : List Move) : Type 0 where
 first-move : (n : ℕ) (m : Move) (ms : List Move) → boardMoves n (m ∷ ms) ≡ true → First n m ms
 unfolding boardMoves
 first-move n m ms h =
-    let b : board-move n m ≡ true = and-l (board-move n m) (every (board-move n) ms) h in
+    let b : board-move n m ≡ true = and-l (board-move n m) (all (board-move n) ms) h in
     record {
       low = leb-true 1 (mover m) (and-l (leb 1 (mover m)) (leb (mover m) n) b);
       high = leb-true (mover m) n (and-r (leb 1 (mover m)) (leb (mover m) n) b);
-      rest = and-r (board-move n m) (every (board-move n) ms) h;
+      rest = and-r (board-move n m) (all (board-move n) ms) h;
     }
 
 abbrev Kept : ℕ → Claims → Claims → Check → Type 0
 Kept n c d k = SoundClaims n (settled k c d)
 
-made-sound : (n : ℕ) (c : Claims) (m : Move) → n < places → 1 ≤ mover m → mover m ≤ n → SoundClaims n c → SoundClaims n (made c m)
+made-sound : (n : ℕ) (c : Claims) (m : Move) → n < places → 1 ≤ mover m → mover m ≤ n → SoundClaims n c → SoundClaims n (claimsAfterMove c m)
 made-sound n c (raise i) fits low high s =
     raise-elim c i (Kept n c (raised c i)) (λ r. s) (λ w b. raised-sound s low high fits (raise-pass c i w b))
 made-sound n c (lower i) fits low high s = lower-elim c i (Kept n c (lowered c i)) (λ r. s) (λ w. lowered-sound s low high)
 
-after-sound : (n : ℕ) (ms : List Move) (c : Claims) → n < places → boardMoves n ms ≡ true → SoundClaims n c → SoundClaims n (after c ms)
-unfolding after
+after-sound : (n : ℕ) (ms : List Move) (c : Claims) → n < places → boardMoves n ms ≡ true → SoundClaims n c → SoundClaims n (claimsAfter c ms)
+unfolding claimsAfter
 after-sound n [] c fits b s = s
 after-sound n (m ∷ ms) c fits b s =
     let f = first-move n m ms b in
-    after-sound n ms (made c m) fits (f .rest) (made-sound n c m fits (f .low) (f .high) s)
+    after-sound n ms (claimsAfterMove c m) fits (f .rest) (made-sound n c m fits (f .low) (f .high) s)
 
 -- ---- the boards that may still lower before p
 
@@ -74,19 +74,19 @@ module _ (n p : ℕ) (fits : n < places) (t : ℕ → Bool) where
 
   -- an accepted lower by another board that passes the test leaves a rival fewer
   rivals-lowered : (c : Claims) (i : ℕ) → SoundClaims n c → 1 ≤ i → i ≤ n → (p ≡ i → ⊥) → member (waiting c) p ≡ true
-      → member (waiting c) i ≡ true → rivals c ≡ one (t i) + rivals (lowered c i)
+      → member (waiting c) i ≡ true → rivals c ≡ toℕ (t i) + rivals (lowered c i)
   unfolding rivals
   rivals-lowered c zero s low high ne h w = absurd (omega arith)
   rivals-lowered c (suc k) s low high ne h w =
       ⊎-elim
       (λ (e : t (suc k) ≡ true). omega (
         arith,
-        ap one e,
+        ap toℕ e,
         count-more (rival (lowered c (suc k))) (rival c) k (gone (t (suc k))) (ap₂ _&&_ e (ap not free)) same n (omega arith),
       ))
       (λ (e : t (suc k) ≡ false). omega (
         arith,
-        ap one e,
+        ap toℕ e,
         count-same (rival c) (rival (lowered c (suc k))) n
             (λ j l. ⊎-elim (λ (q : j ≡ k). let no : t (suc j) ≡ false = ap (λ (x : ℕ). t (suc x)) q ∙ e in
             and-left (t (suc j)) (not (member (barring c (suc j)) p)) no
@@ -115,8 +115,8 @@ module _ (n p : ℕ) (fits : n < places) (t : ℕ → Bool) where
   -- the accepted lowers from a check on: by p none, then by boards that pass the test at most r
   abbrev Bounded : Claims → List Move → Move → ℕ → Check → Type 0
   Bounded c ms m r k =
-      counted (only p) m k + lowers (only p) (settled k c (change c m)) ms ≡ 0
-      → counted t m k + lowers t (settled k c (change c m)) ms ≤ r
+      lowersCounted (only p) m k + lowers (only p) (settled k c (moved c m)) ms ≡ 0
+      → lowersCounted t m k + lowers t (settled k c (moved c m)) ms ≤ r
 
   -- while p waits, they are at most the rivals
   at-most-rivals : (ms : List Move) (c : Claims) → boardMoves n ms ≡ true → SoundClaims n c → member (waiting c) p ≡ true
@@ -138,7 +138,7 @@ module _ (n p : ℕ) (fits : n < places) (t : ℕ → Bool) where
       let f = first-move n (lower i) ms b in
       lower-elim c i (Bounded c ms (lower i) (rivals c))
       (λ r y. omega (arith, at-most-rivals ms c (f .rest) s h (omega arith)))
-      (λ w y. ⊎-elim (λ (e : i ≡ p). absurd (omega (arith, ap one (eq-eqb i p e))))
+      (λ w y. ⊎-elim (λ (e : i ≡ p). absurd (omega (arith, ap toℕ (eq-eqb i p e))))
       (λ (ne : i ≡ p → ⊥).
       let far : p ≡ i → ⊥ = λ e. ne (sym e) in
       omega (

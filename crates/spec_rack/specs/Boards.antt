@@ -2,7 +2,7 @@
 use Prim.Native.Nat.{ℕ, zero, suc, _+_, _-_, _/_, _%_, _^_}
 use mathlib.Core.Bool.{Bool, cond, _&&_}
 use lib.Dec.{eqb, leb, ltb}
-use Rattle.spec_base.specs.Folds.{below, countBelow, implies}
+use Rattle.spec_base.specs.Folds.{allBelow, countBelow, implies}
 
 -- the boards that a set can hold: those below 16
 abbrev pub places : ℕ
@@ -26,11 +26,11 @@ remove s i = cond (member s i) (s - 2 ^ i) s
 
 -- every member of a is one of b
 unfoldable pub subset : ℕ → ℕ → Bool
-subset a b = below places (λ i. implies (member a i) (member b i))
+subset a b = allBelow places (λ i. implies (member a i) (member b i))
 
 -- every member of s is a board: a number from 1 to n
 unfoldable pub boardsOnly : ℕ → ℕ → Bool
-boardsOnly n s = ltb s (2 ^ places) && below places (λ i. implies (member s i) (leb 1 i && leb i n))
+boardsOnly n s = ltb s (2 ^ places) && allBelow places (λ i. implies (member s i) (leb 1 i && leb i n))
 
 -- the first member among the k numbers from i on; i + k where there is none
 unfoldable pub firstFrom : ℕ → ℕ → ℕ → ℕ

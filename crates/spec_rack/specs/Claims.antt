@@ -4,7 +4,7 @@ use mathlib.Core.Bool.{Bool, not, _&&_}
 use mathlib.Core.List.{List, map}
 use lib.Dec.{eqb}
 use lib.ListN.{length, getD, set, replicate}
-use Rattle.spec_base.specs.Folds.{below, implies}
+use Rattle.spec_base.specs.Folds.{allBelow, implies}
 use Rattle.spec_wire.specs.declared.Refusal.the-variants.{Waiting, Barred, NotWaiting}
 use Rattle.spec_wire.specs.declared.Check.{Check}
 use Rattle.spec_wire.specs.declared.Check.the-variants.{Pass}
@@ -62,4 +62,4 @@ soundBarring n c i =
 
 -- a waiting set of boards 1 to n only, and a barring set for each of them
 unfoldable pub soundClaims : ℕ → Claims → Bool
-soundClaims n c = eqb (length c) (suc n) && boardsOnly n (waiting c) && below n (λ i. soundBarring n c (suc i))
+soundClaims n c = eqb (length c) (suc n) && boardsOnly n (waiting c) && allBelow n (λ i. soundBarring n c (suc i))

@@ -11,25 +11,21 @@ use Rattle.spec_rack.specs.declared.Answer.the-variants.{Done}
 use Rattle.spec_rack.specs.declared.Reply.{Reply}
 use Rattle.spec_rack.specs.declared.Reply.the-variants.{Accepted, Refused}
 use Rattle.spec_rack.specs.Rack.{fresh}
-use Rattle.spec_rack.specs.Rules.{openingThen}
+use Rattle.spec_rack.specs.Rules.{openingThen, replyOf}
 use Rattle.spec_rack.specs.RecordLayout.{recordLength, put}
 
 -- in a buffer of l bytes
 unfoldable pub openCheck : ℕ → ℕ → ℕ → ℕ → Check
 openCheck n b t l = openingThen n b t (when ltb l (recordLength b) refuse ShortBuffer else Pass)
 
-abbrev pub openReply : Check → Reply
-openReply Pass = Accepted Done
-openReply (Refuse r) = Refused r
-
 -- a refused opening leaves the buffer; an accepted one writes the fresh rack
-abbrev pub opened : Check → ℕ → ℕ → ℕ → List ℕ → List ℕ
-opened Pass n b t s = put (fresh n b t) s
-opened (Refuse r) n b t s = s
+abbrev pub bufferOpened : Check → ℕ → ℕ → ℕ → List ℕ → List ℕ
+bufferOpened Pass n b t s = put (fresh n b t) s
+bufferOpened (Refuse r) n b t s = s
 
 -- the reply, and the buffer afterwards
-unfoldable pub openTold : ℕ → ℕ → ℕ → List ℕ → Reply
-openTold n b t s = openReply (openCheck n b t (length s))
+unfoldable pub openReply : ℕ → ℕ → ℕ → List ℕ → Reply
+openReply n b t s = replyOf (openCheck n b t (length s))
 
 unfoldable pub openAfter : ℕ → ℕ → ℕ → List ℕ → List ℕ
-openAfter n b t s = opened (openCheck n b t (length s)) n b t s
+openAfter n b t s = bufferOpened (openCheck n b t (length s)) n b t s

@@ -4,7 +4,7 @@ use mathlib.Core.Bool.{Bool, true, false, cond}
 use mathlib.Core.List.{List, [], _∷_}
 use lib.ListN.{getD, replicate}
 use lib.Dec.{eqb}
-use Rattle.spec_base.specs.Folds.{one, sum}
+use Rattle.spec_base.specs.Folds.{toℕ, sum}
 use Rattle.spec_rack.specs.Claims.{Claims, noClaims}
 use Rattle.spec_rack.specs.declared.Message.{Message}
 
@@ -18,7 +18,7 @@ Owner = Bool
 
 -- how many owner tokens a mark stands for
 abbrev pub owners : Owner → ℕ
-owners o = one o
+owners o = toℕ o
 
 -- what a component has of a block
 pub record Cell : Type 0 where

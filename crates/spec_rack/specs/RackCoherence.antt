@@ -6,7 +6,7 @@ use Rattle.spec_wire.specs.declared.Step.{Step}
 use Rattle.spec_rack.specs.declared.Answer.the-variants.{Done}
 use Rattle.spec_rack.specs.Rack.{Rack, tokensOf, ownersOf}
 use Rattle.spec_rack.specs.Rules.{accepted, opening}
-use Rattle.spec_rack.specs.Memory.{blank, flat, run, answers, accesses}
+use Rattle.spec_rack.specs.FlatMemory.{blank, flat, run, answers, accesses}
 
 -- The answered loads give what the flat memory gives when it is handed the accepted loads and stores;
 -- and after the list each of the b blocks has t tokens in components and mesh, one of them the owner.

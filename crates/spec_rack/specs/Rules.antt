@@ -4,7 +4,7 @@ use mathlib.Core.Bool.{Bool, not, cond, _&&_, _||_}
 use mathlib.Core.List.{List, [], _∷_, _++_}
 use lib.ListN.{length, getD, set}
 use lib.Dec.{eqb, leb, ltb}
-use Rattle.spec_base.specs.Folds.{removed, one}
+use Rattle.spec_base.specs.Folds.{removeAt, toℕ}
 use Rattle.spec_wire.specs.declared.Refusal.{Refusal}
 use Rattle.spec_wire.specs.declared.Refusal.the-variants.{OffRack, Home, NoToken, NoData, Short, SelfSend, Claimed, Empty, NotHeld, BareOwner, MeshFull, NoMessage, Unclaimed, Size}
 use Rattle.spec_wire.specs.declared.Check.{Check}
@@ -16,8 +16,10 @@ use Rattle.spec_rack.specs.Claims.{Claims, active, unclaimed, raiseCheck
 use Rattle.spec_rack.specs.declared.Message.{Message}
 use Rattle.spec_rack.specs.declared.Answer.{Answer}
 use Rattle.spec_rack.specs.declared.Answer.the-variants.{Done, Word}
+use Rattle.spec_rack.specs.declared.Reply.{Reply}
+use Rattle.spec_rack.specs.declared.Reply.the-variants.{Accepted, Refused}
 use Rattle.spec_rack.specs.Rack.{Cell, Block, Rack, meshLimit, zeros, blockAt, claimsAt, cellAt, messageAt, held, owners, fresh}
-use Rattle.spec_rack.specs.Sound.{sizes}
+use Rattle.spec_rack.specs.Soundness.{sizes}
 
 -- ---- the rack with one part of it changed: a block and the mesh, a cell and the mesh, the claims on a block
 
@@ -33,15 +35,15 @@ withClaims r b k = changed r b (record { cells = blockAt r b .cells; claims = k 
 -- ---- what the steps change
 
 -- store: writes the word in that component only
-abbrev pub written : Cell → ℕ → ℕ → Cell
-written x w v = record { plain = x .plain; owner = x .owner; valid = x .valid; words = set (x .words) w v }
+abbrev pub withWord : Cell → ℕ → ℕ → Cell
+withWord x w v = record { plain = x .plain; owner = x .owner; valid = x .valid; words = set (x .words) w v }
 
 unfoldable pub stored : Rack → ℕ → ℕ → ℕ → ℕ → Rack
-stored r c b w v = withCell r b c (written (cellAt r b c) w v) (r .mesh)
+stored r c b w v = withCell r b c (withWord (cellAt r b c) w v) (r .mesh)
 
 -- send: takes those tokens from the component; if nothing is held afterwards, valid becomes no; the words stay
-abbrev pub less : Cell → ℕ → Bool → Cell
-less x p o =
+abbrev pub withoutTokens : Cell → ℕ → Bool → Cell
+withoutTokens x p o =
     let plain = x .plain - p in
     let owner = x .owner && not o in
     record { plain = plain; owner = owner; valid = x .valid && ltb 0 (plain + owners owner); words = x .words }
@@ -54,11 +56,11 @@ message x c b t p o d =
 unfoldable pub sent : Rack → ℕ → ℕ → ℕ → ℕ → Bool → Bool → Rack
 sent r c b t p o d =
     let x = cellAt r b c in
-    withCell r b c (less x p o) (r .mesh ++ message x c b t p o d ∷ [])
+    withCell r b c (withoutTokens x p o) (r .mesh ++ message x c b t p o d ∷ [])
 
 -- deliver: adds its tokens to the target; with data, the words become the message's and valid becomes yes
-abbrev pub more : Cell → Message → Cell
-more x m =
+abbrev pub withTokens : Cell → Message → Cell
+withTokens x m =
     record {
       plain = x .plain + m .plain;
       owner = x .owner || m .owner;
@@ -70,7 +72,7 @@ more x m =
 unfoldable pub delivered : Rack → ℕ → Rack
 delivered r i =
     let m = messageAt r i in
-    withCell r (m .block) (m .target) (more (cellAt r (m .block) (m .target)) m) (removed (r .mesh) i)
+    withCell r (m .block) (m .target) (withTokens (cellAt r (m .block) (m .target)) m) (removeAt (r .mesh) i)
 
 -- forward: a send of all held tokens to the active board, data exactly if valid
 unfoldable pub forwarded : Rack → ℕ → ℕ → Rack
@@ -108,7 +110,7 @@ check r (Send c b t p o d) =
     when offRack r c b || ltb (r .boards) t refuse OffRack else
     when eqb c t refuse SelfSend else
     when not (unclaimed (claimsAt r b)) refuse Claimed else
-    when eqb (p + one o) 0 refuse Empty else
+    when eqb (p + toℕ o) 0 refuse Empty else
     when ltb (cellAt r b c .plain) p || o && not (cellAt r b c .owner) refuse NotHeld else
     when o && not d refuse BareOwner else
     when d && not (cellAt r b c .valid) refuse NoData else
@@ -165,6 +167,11 @@ settled (Refuse n) a r = refused n
 
 unfoldable pub rules : Rack → Step → Outcome
 rules r s = settled (check r s) (answer r s) (after r s)
+
+-- the reply to a step or an opening that gives only "done"
+abbrev pub replyOf : Check → Reply
+replyOf Pass = Accepted Done
+replyOf (Refuse n) = Refused n
 
 -- ---- an opening with N, B and T; the buffer's length is asked for where there is one
 

@@ -8,21 +8,21 @@ use borrow.Author.Tests.{ltb-true, leb-true, eqb-true, le-leb, eq-eqb}
 use Rattle.spec_base.proofs.Tests.{and-l, and-r}
 use Rattle.spec_base.specs.Number.{number}
 use Rattle.spec_wire.specs.declared.Field.{Field}
-use Rattle.spec_wire.specs.StepRecord.{size}
-use Rattle.spec_wire.specs.Body.{headed, valueAt, stands, fill}
+use Rattle.spec_wire.specs.StepRecord.{fieldSize}
+use Rattle.spec_wire.specs.Reader.{hasHeader, valueAt, fieldParses, bodyParses}
 
 -- what `headed` tests
 pub record Headed (f : Field) (bs : List ℕ) : Type 0 where
-  pub long : size f ≤ length bs
+  pub long : fieldSize f ≤ length bs
   pub tag : getD bs 0 0 ≡ f .tag
   pub width : number (take 2 (drop 1 bs)) ≡ f .width
 
-pub headed-true : (f : Field) (bs : List ℕ) → Headed f bs → headed f bs ≡ true
-unfolding headed
-headed-true f bs h = simp (le-leb (size f) (length bs) (h .long), eq-eqb (getD bs 0 0) (f .tag) (h .tag), eq-eqb _ _ (h .width))
+pub headed-true : (f : Field) (bs : List ℕ) → Headed f bs → hasHeader f bs ≡ true
+unfolding hasHeader
+headed-true f bs h = simp (le-leb (fieldSize f) (length bs) (h .long), eq-eqb (getD bs 0 0) (f .tag) (h .tag), eq-eqb _ _ (h .width))
 
-pub true-headed : (f : Field) (bs : List ℕ) → headed f bs ≡ true → Headed f bs
-unfolding headed
+pub true-headed : (f : Field) (bs : List ℕ) → hasHeader f bs ≡ true → Headed f bs
+unfolding hasHeader
 true-headed f bs e =
     search (leb-true, eqb-true, and-l, and-r) depth 8
 
@@ -30,13 +30,13 @@ true-headed f bs e =
 pub record Filled (f : Field) (fs : List Field) (bs : List ℕ) : Type 0 where
   pub head : Headed f bs
   pub value : valueAt f bs < f .limit
-  pub rest : fill fs (drop (size f) bs) ≡ true
+  pub rest : bodyParses fs (drop (fieldSize f) bs) ≡ true
 
-pub filled : (f : Field) (fs : List Field) (bs : List ℕ) → fill (f ∷ fs) bs ≡ true → Filled f fs bs
+pub filled : (f : Field) (fs : List Field) (bs : List ℕ) → bodyParses (f ∷ fs) bs ≡ true → Filled f fs bs
 filled f fs bs e =
-    let stood : stands f bs ≡ true = and-l _ _ e in
+    let stood : fieldParses f bs ≡ true = and-l _ _ e in
     record {
-      head = true-headed f bs (and-l (headed f bs) _ stood);
-      value = ltb-true _ _ (and-r (headed f bs) _ stood);
-      rest = and-r (stands f bs) _ e;
+      head = true-headed f bs (and-l (hasHeader f bs) _ stood);
+      value = ltb-true _ _ (and-r (hasHeader f bs) _ stood);
+      rest = and-r (fieldParses f bs) _ e;
     }

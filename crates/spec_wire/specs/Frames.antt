@@ -5,11 +5,11 @@ use lib.ListN.{length, take, drop}
 use Rattle.spec_base.specs.Number.{number}
 
 -- how many bytes the first record takes: three and as many as its length says, or all that are left
-unfoldable pub cutAt : List ℕ → ℕ
-cutAt s = min (3 + number (take 2 (drop 1 s))) (length s)
+unfoldable pub frameSize : List ℕ → ℕ
+frameSize s = min (3 + number (take 2 (drop 1 s))) (length s)
 
 -- the first records, k at most
-unfoldable pub cuts : ℕ → List ℕ → List (List ℕ)
-cuts zero s = []
-cuts (suc k) [] = []
-cuts (suc k) (x ∷ s) = let n = cutAt (x ∷ s) in take n (x ∷ s) ∷ cuts k (drop n (x ∷ s))
+unfoldable pub frames : ℕ → List ℕ → List (List ℕ)
+frames zero s = []
+frames (suc k) [] = []
+frames (suc k) (x ∷ s) = let n = frameSize (x ∷ s) in take n (x ∷ s) ∷ frames k (drop n (x ∷ s))

@@ -5,7 +5,7 @@ use mathlib.Core.List.{List, [], _∷_, map}
 use mathlib.Core.Bool.{Bool, cond}
 use lib.ListN.{length, getD, take}
 use lib.Dec.{eqb, ltb}
-use Rattle.spec_base.specs.Folds.{one, every}
+use Rattle.spec_base.specs.Folds.{toℕ, all}
 use Rattle.spec_wire.specs.declared.Field.{Field}
 use Rattle.spec_wire.specs.declared.Tags.{Tags}
 use Rattle.spec_wire.specs.declared.Step.{Step}
@@ -47,30 +47,30 @@ abbrev pub noField : Field
 noField = record { tag = 0; width = 1; limit = 0 }
 
 -- the field with this tag
-abbrev pub tagged : ℕ → List Field → Field
-tagged t [] = noField
-tagged t (f ∷ fs) = cond (eqb t (f .tag)) f (tagged t fs)
+abbrev pub fieldTagged : ℕ → List Field → Field
+fieldTagged t [] = noField
+fieldTagged t (f ∷ fs) = cond (eqb t (f .tag)) f (fieldTagged t fs)
 
 unfoldable pub fieldOf : ℕ → Field
-fieldOf t = tagged t allFields
+fieldOf t = fieldTagged t allFields
 
 -- A step is told by twelve numbers: the kind byte at place 0, and the value of the field with tag t at place t, 0 where the kind has none.
 -- Yes is 1 and no is 0.
-unfoldable pub places : Step → List ℕ
-places (Load c b w) = 0x10 ∷ c ∷ b ∷ w ∷ 0 ∷ 0 ∷ 0 ∷ 0 ∷ 0 ∷ 0 ∷ 0 ∷ 0 ∷ []
-places (Store c b w v) = 0x11 ∷ c ∷ b ∷ w ∷ v ∷ 0 ∷ 0 ∷ 0 ∷ 0 ∷ 0 ∷ 0 ∷ 0 ∷ []
-places (Send c b t p o d) = 0x12 ∷ c ∷ b ∷ 0 ∷ 0 ∷ t ∷ p ∷ one o ∷ one d ∷ 0 ∷ 0 ∷ 0 ∷ []
-places (Deliver i) = 0x13 ∷ 0 ∷ 0 ∷ 0 ∷ 0 ∷ 0 ∷ 0 ∷ 0 ∷ 0 ∷ i ∷ 0 ∷ 0 ∷ []
-places (Raise c b) = 0x14 ∷ c ∷ b ∷ 0 ∷ 0 ∷ 0 ∷ 0 ∷ 0 ∷ 0 ∷ 0 ∷ 0 ∷ 0 ∷ []
-places (Lower c b) = 0x15 ∷ c ∷ b ∷ 0 ∷ 0 ∷ 0 ∷ 0 ∷ 0 ∷ 0 ∷ 0 ∷ 0 ∷ 0 ∷ []
-places (Forward c b) = 0x16 ∷ c ∷ b ∷ 0 ∷ 0 ∷ 0 ∷ 0 ∷ 0 ∷ 0 ∷ 0 ∷ 0 ∷ 0 ∷ []
+unfoldable pub fieldArray : Step → List ℕ
+fieldArray (Load c b w) = 0x10 ∷ c ∷ b ∷ w ∷ 0 ∷ 0 ∷ 0 ∷ 0 ∷ 0 ∷ 0 ∷ 0 ∷ 0 ∷ []
+fieldArray (Store c b w v) = 0x11 ∷ c ∷ b ∷ w ∷ v ∷ 0 ∷ 0 ∷ 0 ∷ 0 ∷ 0 ∷ 0 ∷ 0 ∷ []
+fieldArray (Send c b t p o d) = 0x12 ∷ c ∷ b ∷ 0 ∷ 0 ∷ t ∷ p ∷ toℕ o ∷ toℕ d ∷ 0 ∷ 0 ∷ 0 ∷ []
+fieldArray (Deliver i) = 0x13 ∷ 0 ∷ 0 ∷ 0 ∷ 0 ∷ 0 ∷ 0 ∷ 0 ∷ 0 ∷ i ∷ 0 ∷ 0 ∷ []
+fieldArray (Raise c b) = 0x14 ∷ c ∷ b ∷ 0 ∷ 0 ∷ 0 ∷ 0 ∷ 0 ∷ 0 ∷ 0 ∷ 0 ∷ 0 ∷ []
+fieldArray (Lower c b) = 0x15 ∷ c ∷ b ∷ 0 ∷ 0 ∷ 0 ∷ 0 ∷ 0 ∷ 0 ∷ 0 ∷ 0 ∷ 0 ∷ []
+fieldArray (Forward c b) = 0x16 ∷ c ∷ b ∷ 0 ∷ 0 ∷ 0 ∷ 0 ∷ 0 ∷ 0 ∷ 0 ∷ 0 ∷ 0 ∷ []
 
 -- the kind byte among the numbers, and the value of a field
 abbrev pub kindIn : List ℕ → ℕ
 kindIn p = getD p 0 0
 
-abbrev pub get : Field → List ℕ → ℕ
-get f p = getD p (f .tag) 0
+abbrev pub valueOf : Field → List ℕ → ℕ
+valueOf f p = getD p (f .tag) 0
 
 -- A kind: its kind byte, its fields in rising order of their tags, and the step that the numbers tell.
 pub record Kind : Type 0 where
@@ -83,22 +83,22 @@ kinds =
     record {
       code = 0x10;
       fields = component ∷ block ∷ word ∷ [];
-      step = λ p. Load (get component p) (get block p) (get word p);
+      step = λ p. Load (valueOf component p) (valueOf block p) (valueOf word p);
     }
     ∷ record {
       code = 0x11;
       fields = component ∷ block ∷ word ∷ value ∷ [];
-      step = λ p. Store (get component p) (get block p) (get word p) (get value p);
+      step = λ p. Store (valueOf component p) (valueOf block p) (valueOf word p) (valueOf value p);
     }
     ∷ record {
       code = 0x12;
       fields = component ∷ block ∷ target ∷ plain ∷ owner ∷ «data» ∷ [];
-      step = λ p. Send (get component p) (get block p) (get target p) (get plain p) (eqb (get owner p) 1) (eqb (get «data» p) 1);
+      step = λ p. Send (valueOf component p) (valueOf block p) (valueOf target p) (valueOf plain p) (eqb (valueOf owner p) 1) (eqb (valueOf «data» p) 1);
     }
-    ∷ record { code = 0x13; fields = position ∷ []; step = λ p. Deliver (get position p) }
-    ∷ record { code = 0x14; fields = component ∷ block ∷ []; step = λ p. Raise (get component p) (get block p) }
-    ∷ record { code = 0x15; fields = component ∷ block ∷ []; step = λ p. Lower (get component p) (get block p) }
-    ∷ record { code = 0x16; fields = component ∷ block ∷ []; step = λ p. Forward (get component p) (get block p) }
+    ∷ record { code = 0x13; fields = position ∷ []; step = λ p. Deliver (valueOf position p) }
+    ∷ record { code = 0x14; fields = component ∷ block ∷ []; step = λ p. Raise (valueOf component p) (valueOf block p) }
+    ∷ record { code = 0x15; fields = component ∷ block ∷ []; step = λ p. Lower (valueOf component p) (valueOf block p) }
+    ∷ record { code = 0x16; fields = component ∷ block ∷ []; step = λ p. Forward (valueOf component p) (valueOf block p) }
     ∷ []
 
 -- what stands for a kind where there is none with a kind byte: no bytes have its field, so it never gives a step
@@ -106,20 +106,20 @@ abbrev pub noKind : Kind
 noKind = record { code = 0; fields = noField ∷ []; step = λ p. Deliver 0 }
 
 -- the kind with this kind byte
-abbrev pub coded : ℕ → List Kind → Kind
-coded k [] = noKind
-coded k (x ∷ xs) = cond (eqb k (x .code)) x (coded k xs)
+abbrev pub kindCoded : ℕ → List Kind → Kind
+kindCoded k [] = noKind
+kindCoded k (x ∷ xs) = cond (eqb k (x .code)) x (kindCoded k xs)
 
 unfoldable pub kindOf : ℕ → Kind
-kindOf k = coded k kinds
+kindOf k = kindCoded k kinds
 
 -- each field's value is in bounds
-unfoldable pub fit : List Field → List ℕ → Bool
-fit fs p = every (λ f. ltb (get f p) (f .limit)) fs
+unfoldable pub inBounds : List Field → List ℕ → Bool
+inBounds fs p = all (λ f. ltb (valueOf f p) (f .limit)) fs
 
 -- a step whose numbers fit their fields, as those of the code's steps do
-abbrev pub fits : Step → Bool
-fits s = fit (kindOf (kindIn (places s)) .fields) (places s)
+abbrev pub stepInBounds : Step → Bool
+stepInBounds s = inBounds (kindOf (kindIn (fieldArray s)) .fields) (fieldArray s)
 
 -- the code's tags of a kind's fields
 pub record TagsOf (kind : ℕ) (t : Tags) : Type 0 where

@@ -1,11 +1,9 @@
 pub mod Refusals
-pub mod ResultWord
+pub mod Results
 pub mod Kinds
 pub mod StepRecord
-pub mod Body
 pub mod Reader
 pub mod Writer
 pub mod FieldArray
 pub mod RoundTrip
-pub mod Entries
 pub mod Frames

@@ -2,8 +2,8 @@
 ghost use mathlib.Core.Path.{_≡_};
 ghost use Rattle.spec_rack.specs.Rules.{check};
 ghost use Rattle.spec_rack.specs.RecordLayout.{get};
-ghost use Rattle.spec_rack.specs.Needs.{Whole, Ready};
-ghost use Rattle.spec_rack.specs.Apply.{replyTo, leftBy};
+ghost use Rattle.record.specs.Needs.{InLayout, SoundRecord};
+ghost use Rattle.spec_rack.specs.Entries.{replyToStep, bufferAfter};
 use base::wide;
 use spec_rack::Answer;
 use spec_rack::Reply;
@@ -12,51 +12,51 @@ use spec_wire::Refusal;
 use spec_wire::Step;
 
 pub fn load(rec: &[u8], component: u8, block: u8, word: u8) -> Reply
-    requires { ⌜ Ready (now rec) ⌝ }
-    ensures { λ r. ⌜ r ≡ replyTo (now (rec .entry)) (Step.Load component block word) ⌝ }
+    requires { ⌜ SoundRecord (now rec) ⌝ }
+    ensures { λ r. ⌜ r ≡ replyToStep (now (rec .entry)) (Step.Load component block word) ⌝ }
 {
-    if step_checks::checks::off_word(rec, component, block, word) {
+    if step_checks::checks::off_rack_word(rec, component, block, word) {
         return Reply::Refused(Refusal::OffRack);
     }
     if step_checks::checks::at_home(component) {
         return Reply::Refused(Refusal::Home);
     }
-    let marks = record::cells::marks_of(rec, block, component);
-    if step_checks::tokens::held(marks) == 0 {
+    let state = record::cells::token_state(rec, block, component);
+    if step_checks::tokens::held(state) == 0 {
         return Reply::Refused(Refusal::NoToken);
     }
-    if !marks.valid {
+    if !state.valid {
         return Reply::Refused(Refusal::NoData);
     }
     Reply::Accepted(Answer::Word(record::cells::word(rec, block, component, word)))
 }
 
 fn store_check(rec: &[u8], component: u8, block: u8, word: u8, value: u32) -> Check
-    requires { ⌜ Whole (now rec) ⌝ }
+    requires { ⌜ InLayout (now rec) ⌝ }
     ensures { λ r. ⌜ r ≡ check (get (now (rec .entry))) (Step.Store component block word value) ⌝ }
 {
-    if step_checks::checks::off_word(rec, component, block, word) {
+    if step_checks::checks::off_rack_word(rec, component, block, word) {
         return Check::Refuse(Refusal::OffRack);
     }
     if step_checks::checks::at_home(component) {
         return Check::Refuse(Refusal::Home);
     }
-    let marks = record::cells::marks_of(rec, block, component);
-    if step_checks::tokens::held(marks) < wide(rec[2]) {
+    let state = record::cells::token_state(rec, block, component);
+    if step_checks::tokens::held(state) < wide(rec[2]) {
         return Check::Refuse(Refusal::Short);
     }
     Check::Pass
 }
 
 pub fn store(rec: &mut [u8], component: u8, block: u8, word: u8, value: u32) -> Reply
-    requires { ⌜ Ready (now rec) ⌝ }
-    ensures reply { λ r. ⌜ r ≡ replyTo (now (rec .entry)) (Step.Store component block word value) ⌝ }
-    ensures buffer { λ r. ⌜ now (rec .exit) ≡ leftBy (now (rec .entry)) (Step.Store component block word value) ⌝ }
+    requires { ⌜ SoundRecord (now rec) ⌝ }
+    ensures reply { λ r. ⌜ r ≡ replyToStep (now (rec .entry)) (Step.Store component block word value) ⌝ }
+    ensures buffer { λ r. ⌜ now (rec .exit) ≡ bufferAfter (now (rec .entry)) (Step.Store component block word value) ⌝ }
 {
     let verdict = store_check(rec, component, block, word, value);
-    if step_checks::checks::passes(verdict) {
+    if step_checks::checks::is_pass(verdict) {
         record::cells::set_word(rec, block, component, word, value);
         return Reply::Accepted(Answer::Done);
     }
-    step_checks::checks::told(verdict)
+    step_checks::checks::reply_of(verdict)
 }

@@ -1,6 +1,6 @@
-pub mod Marked
-pub mod Claimed
-pub mod Made
-pub mod OnRack
-pub mod Passed
-pub mod VerdictLaws
+pub mod TokenLaws
+pub mod ClaimsInRecord
+pub mod StepOutcome
+pub mod RackBounds
+pub mod CheckFacts
+pub mod CheckLaws

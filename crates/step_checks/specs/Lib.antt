@@ -1,2 +1,2 @@
 pub mod Sendable
-pub mod Verdict
+pub mod Checked

@@ -9,8 +9,9 @@ ghost use Rattle.spec_rack.specs.Claims.{waiting};
 ghost use Rattle.spec_rack.specs.Rack.{claimsAt};
 ghost use Rattle.spec_rack.specs.Rules.{offRack, meshFull};
 ghost use Rattle.spec_rack.specs.RecordLayout.{blockOffset, claimsOffset, get};
-ghost use Rattle.spec_rack.specs.Needs.{Whole};
-ghost use Rattle.step_checks.specs.Verdict.{passed, toldBy};
+ghost use Rattle.record.specs.Needs.{InLayout};
+ghost use Rattle.step_checks.specs.Checked.{isPass};
+ghost use Rattle.spec_rack.specs.Rules.{replyOf};
 use spec_rack::Answer;
 use spec_rack::BLOCK_SIZE;
 use spec_rack::BLOCKS_OFFSET;
@@ -20,7 +21,7 @@ use spec_wire::Check;
 
 // Whether the component is above N or the block not below B.
 pub fn off_rack(rec: &[u8], component: u8, block: u8) -> bool
-    requires { ⌜ Whole (now rec) ⌝ }
+    requires { ⌜ InLayout (now rec) ⌝ }
     ensures { λ r. ⌜ r ≡ offRack (get (now (rec .entry))) component block ⌝ }
 {
     if rec[0] < component {
@@ -30,8 +31,8 @@ pub fn off_rack(rec: &[u8], component: u8, block: u8) -> bool
 }
 
 // Whether the component or the block is off the rack, or the word is above 7.
-pub fn off_word(rec: &[u8], component: u8, block: u8, word: u8) -> bool
-    requires { ⌜ Whole (now rec) ⌝ }
+pub fn off_rack_word(rec: &[u8], component: u8, block: u8, word: u8) -> bool
+    requires { ⌜ InLayout (now rec) ⌝ }
     ensures { λ r. ⌜ r ≡ (offRack (get (now (rec .entry))) component block || ltb 7 word) ⌝ }
 {
     if off_rack(rec, component, block) {
@@ -48,18 +49,18 @@ pub fn at_home(component: u8) -> bool
 }
 
 // Where the sets of boards of a block stand.
-pub fn claims_place(block: u8) -> usize
+pub fn claims_offset(block: u8) -> usize
     ensures { λ r. ⌜ r ≡ blockOffset block + claimsOffset ⌝ }
 {
     BLOCKS_OFFSET + BLOCK_SIZE * (block as usize) + CLAIMS_OFFSET
 }
 
 // The waiting set of a block.
-pub fn waiting(rec: &[u8], block: u8) -> u16
-    requires { ⌜ Whole (now rec) × (block < getD (now rec) 1 0) ⌝ }
+pub fn waiting_set(rec: &[u8], block: u8) -> u16
+    requires { ⌜ InLayout (now rec) × (block < getD (now rec) 1 0) ⌝ }
     ensures { λ r. ⌜ r ≡ waiting (claimsAt (get (now (rec .entry))) block) ⌝ }
 {
-    arbiter::claims::waiting_at(rec, claims_place(block))
+    arbiter::claims::waiting_at(rec, claims_offset(block))
 }
 
 // Whether the boards that wait for a block stop a component's send of it: any of them does, whatever the component; the active board's own send is stopped too.
@@ -71,15 +72,15 @@ pub fn claimed(boards: u16, component: u8) -> bool
 
 // Whether 64 messages are in flight.
 pub fn mesh_full(rec: &[u8]) -> bool
-    requires { ⌜ Whole (now rec) ⌝ }
+    requires { ⌜ InLayout (now rec) ⌝ }
     ensures { λ r. ⌜ r ≡ meshFull (get (now (rec .entry))) ⌝ }
 {
     64 <= rec[3]
 }
 
 // Whether a verdict lets the step pass.
-pub fn passes(verdict: Check) -> bool
-    ensures { λ r. ⌜ r ≡ passed verdict ⌝ }
+pub fn is_pass(verdict: Check) -> bool
+    ensures { λ r. ⌜ r ≡ isPass verdict ⌝ }
 {
     match verdict {
         Check::Pass => true,
@@ -88,8 +89,8 @@ pub fn passes(verdict: Check) -> bool
 }
 
 // The reply to a step that gives only "done".
-pub fn told(verdict: Check) -> Reply
-    ensures { λ r. ⌜ r ≡ toldBy verdict ⌝ }
+pub fn reply_of(verdict: Check) -> Reply
+    ensures { λ r. ⌜ r ≡ replyOf verdict ⌝ }
 {
     match verdict {
         Check::Pass => Reply::Accepted(Answer::Done),

@@ -2,8 +2,8 @@
 ghost use mathlib.Core.Path.{_≡_};
 ghost use Rattle.spec_rack.specs.Rules.{check};
 ghost use Rattle.spec_rack.specs.RecordLayout.{get};
-ghost use Rattle.spec_rack.specs.Needs.{Whole, Ready};
-ghost use Rattle.spec_rack.specs.Apply.{replyTo, leftBy};
+ghost use Rattle.record.specs.Needs.{InLayout, SoundRecord};
+ghost use Rattle.spec_rack.specs.Entries.{replyToStep, bufferAfter};
 use spec_rack::Answer;
 use spec_rack::Reply;
 use spec_wire::Check;
@@ -11,7 +11,7 @@ use spec_wire::Refusal;
 use spec_wire::Step;
 
 fn raise_check(rec: &[u8], component: u8, block: u8) -> Check
-    requires { ⌜ Whole (now rec) ⌝ }
+    requires { ⌜ InLayout (now rec) ⌝ }
     ensures { λ r. ⌜ r ≡ check (get (now (rec .entry))) (Step.Raise component block) ⌝ }
 {
     if step_checks::checks::off_rack(rec, component, block) {
@@ -20,11 +20,11 @@ fn raise_check(rec: &[u8], component: u8, block: u8) -> Check
     if step_checks::checks::at_home(component) {
         return Check::Refuse(Refusal::Home);
     }
-    arbiter::claims::raise_check(rec, step_checks::checks::claims_place(block), component)
+    arbiter::claims::raise_check(rec, step_checks::checks::claims_offset(block), component)
 }
 
 fn lower_check(rec: &[u8], component: u8, block: u8) -> Check
-    requires { ⌜ Whole (now rec) ⌝ }
+    requires { ⌜ InLayout (now rec) ⌝ }
     ensures { λ r. ⌜ r ≡ check (get (now (rec .entry))) (Step.Lower component block) ⌝ }
 {
     if step_checks::checks::off_rack(rec, component, block) {
@@ -33,37 +33,37 @@ fn lower_check(rec: &[u8], component: u8, block: u8) -> Check
     if step_checks::checks::at_home(component) {
         return Check::Refuse(Refusal::Home);
     }
-    arbiter::claims::lower_check(rec, step_checks::checks::claims_place(block), component)
+    arbiter::claims::lower_check(rec, step_checks::checks::claims_offset(block), component)
 }
 
 pub fn raise(rec: &mut [u8], component: u8, block: u8) -> Reply
-    requires { ⌜ Ready (now rec) ⌝ }
-    ensures reply { λ r. ⌜ r ≡ replyTo (now (rec .entry)) (Step.Raise component block) ⌝ }
-    ensures buffer { λ r. ⌜ now (rec .exit) ≡ leftBy (now (rec .entry)) (Step.Raise component block) ⌝ }
+    requires { ⌜ SoundRecord (now rec) ⌝ }
+    ensures reply { λ r. ⌜ r ≡ replyToStep (now (rec .entry)) (Step.Raise component block) ⌝ }
+    ensures buffer { λ r. ⌜ now (rec .exit) ≡ bufferAfter (now (rec .entry)) (Step.Raise component block) ⌝ }
 {
     let verdict = raise_check(rec, component, block);
-    if step_checks::checks::passes(verdict) {
-        arbiter::change::raise_at(rec, step_checks::checks::claims_place(block), component);
+    if step_checks::checks::is_pass(verdict) {
+        arbiter::change::raise_at(rec, step_checks::checks::claims_offset(block), component);
         return Reply::Accepted(Answer::Done);
     }
-    step_checks::checks::told(verdict)
+    step_checks::checks::reply_of(verdict)
 }
 
 pub fn lower(rec: &mut [u8], component: u8, block: u8) -> Reply
-    requires { ⌜ Ready (now rec) ⌝ }
-    ensures reply { λ r. ⌜ r ≡ replyTo (now (rec .entry)) (Step.Lower component block) ⌝ }
-    ensures buffer { λ r. ⌜ now (rec .exit) ≡ leftBy (now (rec .entry)) (Step.Lower component block) ⌝ }
+    requires { ⌜ SoundRecord (now rec) ⌝ }
+    ensures reply { λ r. ⌜ r ≡ replyToStep (now (rec .entry)) (Step.Lower component block) ⌝ }
+    ensures buffer { λ r. ⌜ now (rec .exit) ≡ bufferAfter (now (rec .entry)) (Step.Lower component block) ⌝ }
 {
     let verdict = lower_check(rec, component, block);
-    if step_checks::checks::passes(verdict) {
+    if step_checks::checks::is_pass(verdict) {
         let boards = rec[0];
         arbiter::change::lower_at(
             rec,
-            step_checks::checks::claims_place(block),
+            step_checks::checks::claims_offset(block),
             boards,
             component,
         );
         return Reply::Accepted(Answer::Done);
     }
-    step_checks::checks::told(verdict)
+    step_checks::checks::reply_of(verdict)
 }

@@ -1,3 +1,3 @@
-pub mod Tables
-pub mod Sent
-pub mod Delivered
+pub mod SendTable
+pub mod SentTokens
+pub mod DeliveredMessage

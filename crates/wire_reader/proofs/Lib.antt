@@ -1,3 +1,3 @@
-pub mod Seeing
-pub mod ByKind
-pub mod Cutting
+pub mod FieldParsing
+pub mod BodyParsing
+pub mod Framing

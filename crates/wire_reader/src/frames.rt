@@ -2,13 +2,13 @@
 ghost use mathlib.Core.Path.{_≡_};
 ghost use Prim.Native.Nat.{_+_, _≤_, _<_};
 ghost use lib.ListN.{length, drop};
-ghost use Rattle.spec_wire.specs.Frames.{cutAt};
+ghost use Rattle.spec_wire.specs.Frames.{frameSize};
 use base::wide;
 
 // Where the record that starts at a place of the list ends.
-pub fn cut(list: &[u8], at: usize) -> usize
+pub fn frame_end_within(list: &[u8], at: usize) -> usize
     requires { ⌜ at < length (now list) ⌝ }
-    ensures { λ r. ⌜ (r ≡ at + cutAt (drop at (now (list .entry)))) × (at < r) × (r ≤ length (now (list .entry))) ⌝ }
+    ensures { λ r. ⌜ (r ≡ at + frameSize (drop at (now (list .entry)))) × (at < r) × (r ≤ length (now (list .entry))) ⌝ }
 {
     let left = list.len() - at;
     if left < 3 {
@@ -22,11 +22,11 @@ pub fn cut(list: &[u8], at: usize) -> usize
 }
 
 // The same for any place: past the list nothing is left, and the place stays.
-pub fn cut_end(list: &[u8], at: usize) -> usize
-    ensures { λ r. ⌜ r ≡ at + cutAt (drop at (now (list .entry))) ⌝ }
+pub fn frame_end(list: &[u8], at: usize) -> usize
+    ensures { λ r. ⌜ r ≡ at + frameSize (drop at (now (list .entry))) ⌝ }
 {
     if at < list.len() {
-        return cut(list, at);
+        return frame_end_within(list, at);
     }
     at
 }

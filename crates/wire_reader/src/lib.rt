@@ -4,8 +4,8 @@ pub mod frames;
 pub mod message_body;
 
 ghost use mathlib.Core.Path.{_≡_};
-ghost use Rattle.spec_wire.specs.Body.{readBody};
-ghost use Rattle.wire_reader.specs.Seen.{readAs};
+ghost use Rattle.spec_wire.specs.Reader.{readBody};
+ghost use Rattle.wire_reader.specs.Parsing.{readingOf};
 ghost use Rattle.spec_wire.specs.Reader.{readRecord};
 use body::Parsed;
 use spec_wire::Reading;
@@ -13,7 +13,7 @@ use spec_wire::Refusal;
 
 // The step of the kind with this kind byte, from its body.
 fn read_body(kind: u8, body: &[u8]) -> Parsed
-    ensures { λ r. ⌜ readAs r ≡ readBody kind (now (body .entry)) ⌝ }
+    ensures { λ r. ⌜ readingOf r ≡ readBody kind (now (body .entry)) ⌝ }
 {
     match kind {
         0x10 => body::read_load(body),
@@ -21,16 +21,16 @@ fn read_body(kind: u8, body: &[u8]) -> Parsed
         0x12 => message_body::read_send(body),
         0x13 => message_body::read_deliver(body),
         0x14..=0x16 => body::read_claim(kind, body),
-        _ => body::nothing(),
+        _ => body::torn(),
     }
 }
 
 // What parsed bytes read as.
-fn reading(parsed: Parsed) -> Reading
-    ensures { λ r. ⌜ r ≡ readAs parsed ⌝ }
+fn reading_of(parsed: Parsed) -> Reading
+    ensures { λ r. ⌜ r ≡ readingOf parsed ⌝ }
 {
     let step = parsed.step;
-    if parsed.stands {
+    if parsed.ok {
         Reading::Step(step)
     } else {
         Reading::Refused(Refusal::Torn)
@@ -47,5 +47,5 @@ pub fn read(bytes: &[u8]) -> Reading
     if base::numbers::number(&bytes[1..3]) as usize != bytes.len() - 3 {
         return Reading::Refused(Refusal::Torn);
     }
-    reading(read_body(bytes[0], &bytes[3..]))
+    reading_of(read_body(bytes[0], &bytes[3..]))
 }

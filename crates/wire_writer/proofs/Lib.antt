@@ -1,3 +1,3 @@
-pub mod Framing
-pub mod Writing
-pub mod Telling
+pub mod FieldOrder
+pub mod PlacedRecord
+pub mod FieldArraySum

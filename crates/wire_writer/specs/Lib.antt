@@ -1,1 +1,1 @@
-pub mod MadeUp
+pub mod FieldSum

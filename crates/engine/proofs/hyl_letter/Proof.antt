@@ -1,5 +1,5 @@
 -- `engine::hyl_letter` meets its contract: the letter or the refusal, packed.
-use Rattle.spec_rack.specs.ReplyWord.{packedLetter}
+use Rattle.spec_rack.specs.Results.{packedLetter}
 use mathlib.Core.Path.{ap, _∙_}
 use borrow.Author.Needs.{needs}
 use Rattle.engine.proofs.hyl_letter.Statement.{statement}

@@ -1,7 +1,7 @@
 -- `rackrun::main` is safe: the text that was placed is within its buffer.
 use mathlib.Core.Path.{sym}
 use lib.Seq.{length-take-le}
-use Rattle.rackrun_text.proofs.Texts.{placed-fits}
+use Rattle.rackrun_text.proofs.RunText.{placed-fits}
 use borrow.Author.Needs.{needs}
 use Rattle.rackrun.proofs.main.Statement.{statement}
 use Rattle.rackrun.proofs.main.Tie as tie

@@ -3,7 +3,7 @@ use borrow.Author.Needs.{needs}
 use Prim.Native.Nat.{_-_}
 use native.Mathlib.Omega.{arith}
 use lib.ListN.{length}
-use Rattle.rackrun_text.proofs.Texts.{cut-inside, Going, going-start, going-room, going-more, going-end}
+use Rattle.rackrun_text.proofs.RunText.{cut-inside, Going, going-start, going-room, going-more, going-end}
 use Rattle.rackrun_text.proofs.put_steps.Statement.{statement}
 use Rattle.rackrun_text.proofs.put_steps.Tie as tie
 
@@ -18,8 +18,8 @@ loop-holds c =
     let s = c .before .before .before in
     going-start (s .args .list .now) 65536 (s .args .rec .now) (s .args .out .now) (s .args .at) (s .pre .0) (s .pre .1)
 
-cut-end-requires : tie.Need-cut-end-requires Inv-loop μ-loop
-cut-end-requires c κs = search needs
+frame-end-requires : tie.Need-frame-end-requires Inv-loop μ-loop
+frame-end-requires c κs = search needs
 
 sub-step : tie.Need-sub-step Inv-loop μ-loop
 sub-step c = search needs
@@ -29,7 +29,7 @@ part-step-start c = search needs
 
 part-step-end : tie.Need-part-step-end Inv-loop μ-loop
 part-step-end c =
-    omega (arith, c .before .before .loop-test .taken, cut-inside (c .before .before .before .before .before .before .before .args .list .now) (c .before .before .before .loop .place) (c .before .cut-end .result) (c .before .before .loop-test .taken) (c .before .cut-end .ensures) .1 .0)
+    omega (arith, c .before .before .loop-test .taken, cut-inside (c .before .before .before .before .before .before .before .args .list .now) (c .before .before .before .loop .place) (c .before .frame-end .result) (c .before .before .loop-test .taken) (c .before .frame-end .ensures) .1 .0)
 
 step-requires : tie.Need-step-requires Inv-loop μ-loop
 step-requires c κs = search needs
@@ -47,7 +47,7 @@ loop-less : tie.Need-loop-less Inv-loop μ-loop
 loop-less c =
     let s = c .before .before .before .before .before .before .before .before .before .before .before .before .before .before .before in
     let l = c .before .before .before .before .before .before .before .before .before .before .before .loop in
-    omega (arith, cut-inside (s .args .list .now) (l .place) (c .before .before .before .before .before .before .before .before .before .cut-end .result) (c .before .before .before .before .before .before .before .before .before .before .loop-test .taken) (c .before .before .before .before .before .before .before .before .before .cut-end .ensures) .0)
+    omega (arith, cut-inside (s .args .list .now) (l .place) (c .before .before .before .before .before .before .before .before .before .frame-end .result) (c .before .before .before .before .before .before .before .before .before .before .loop-test .taken) (c .before .before .before .before .before .before .before .before .before .frame-end .ensures) .0)
 
 loop-again : tie.Need-loop-again Inv-loop μ-loop
 loop-again c =
@@ -55,7 +55,7 @@ loop-again c =
     let l = c .before .before .before .before .before .before .before .before .before .before .before .loop in
     let given = c .before .before .before .before .before .before .step in
     going-more (s .args .list .now) 65536 (s .args .rec .now) (s .args .out .now) (s .args .at) (l .rec) (l .out) (l .to) (l .place) (l .made) (l .inv)
-    (c .before .before .before .before .before .before .before .before .before .cut-end .result) (c .before .before .before .before .before .before .before .before .before .before .loop-test .taken) (c .before .before .before .before .before .before .before .before .before .cut-end .ensures) _ _ _ _ (given .kept .0) (given .ensures .0) (given .ensures .1) (c .before .before .put-line .ensures)
+    (c .before .before .before .before .before .before .before .before .before .frame-end .result) (c .before .before .before .before .before .before .before .before .before .before .loop-test .taken) (c .before .before .before .before .before .before .before .before .before .frame-end .ensures) _ _ _ _ (given .kept .0) (given .ensures .0) (given .ensures .1) (c .before .before .put-line .ensures)
 
 same-length : tie.Need-same-length Inv-loop μ-loop
 same-length c = c .before .loop .inv .kept
@@ -76,7 +76,7 @@ put-steps-spec =
     Inv-loop
     μ-loop
     loop-holds
-    cut-end-requires
+    frame-end-requires
     sub-step
     part-step-start
     part-step-end

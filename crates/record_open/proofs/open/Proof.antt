@@ -5,9 +5,9 @@ use mathlib.Core.Bool.{true}
 use borrow.Author.Tests.{not-true, not-false}
 use lib.ListN.{length}
 use Rattle.spec_wire.specs.declared.Check.the-variants.{Pass}
-use Rattle.spec_rack.specs.Sound.{sizes}
+use Rattle.spec_rack.specs.Soundness.{sizes}
 use Rattle.spec_rack.specs.Opening.{openCheck}
-use Rattle.spec_rack.proofs.Opened.{open-size, open-short, open-pass, sized, open-refused, open-accepted}
+use Rattle.spec_rack.proofs.OpeningLaws.{open-size, open-short, open-pass, sized, open-refused, open-accepted}
 use borrow.Author.Needs.{needs}
 use Rattle.record_open.proofs.open.Statement.{statement}
 use Rattle.record_open.proofs.open.Tie as tie

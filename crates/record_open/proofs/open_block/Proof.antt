@@ -3,14 +3,14 @@ use mathlib.Core.Path.{sym, ap, _∙_}
 use mathlib.Core.List.{List}
 use Prim.Native.Nat.{ℕ, _+_, _*_, _-_}
 use lib.ListN.{set, length-set, replicate}
-use Rattle.spec_base.specs.Layout.{over}
+use Rattle.spec_base.specs.Layout.{modifyAt}
 use Rattle.record_open.proofs.FreshBytes.{three-kept, empty-is, fresh-is}
 use borrow.Author.Needs.{needs}
 use Rattle.record_open.proofs.open_block.Statement.{statement}
 use Rattle.record_open.proofs.open_block.Tie as tie
 use Rattle.record_open.proofs.open_block.Reads as reads
 use Rattle.record_open.proofs.open_block.Lts as lts
-use Rattle.record_open.proofs.clear.Reads as clear-reads
+use Rattle.record_open.proofs.zero_fill.Reads as clear-reads
 
 -- src/lib.rt:38:31
 add-words : tie.Need-add-words
@@ -29,16 +29,16 @@ add-behind : tie.Need-add-behind
 add-behind c = search needs
 
 -- src/lib.rt:41:5
-clear-requires : tie.Need-clear-requires
-clear-requires c κs = search needs
+zero-fill-requires : tie.Need-zero-fill-requires
+zero-fill-requires c κs = search needs
 
 -- src/lib.rt:42:5
-clear-requires-2 : tie.Need-clear-requires-2
-clear-requires-2 c κs = search needs
+zero-fill-requires-2 : tie.Need-zero-fill-requires-2
+zero-fill-requires-2 c κs = search needs
 
 -- src/lib.rt:43:5
-clear-requires-3 : tie.Need-clear-requires-3
-clear-requires-3 c κs = search needs
+zero-fill-requires-3 : tie.Need-zero-fill-requires-3
+zero-fill-requires-3 c κs = search needs
 
 -- src/lib.rt:44:16
 sub-rec : tie.Need-sub-rec
@@ -58,7 +58,7 @@ add-rec c = search needs
 
 -- src/lib.rt:45:5
 slice-write-rec-2 : tie.Need-slice-write-rec-2
-slice-write-rec-2 c = simp length-set (omega (arith, c .before .before .clear3 .kept .0, c .before .before .before .before .before .before .clear2 .kept .0, c .before .before .before .before .before .before .before .before .before .before .clear .kept .0))
+slice-write-rec-2 c = simp length-set (omega (arith, c .before .before .zero-fill3 .kept .0, c .before .before .before .before .before .before .zero-fill2 .kept .0, c .before .before .before .before .before .before .before .before .before .before .zero-fill .kept .0))
 
 -- src/lib.rt:46:9
 add-rec-2 : tie.Need-add-rec-2
@@ -66,12 +66,12 @@ add-rec-2 c = search needs
 
 -- src/lib.rt:46:5
 slice-write-rec-3 : tie.Need-slice-write-rec-3
-slice-write-rec-3 c = simp length-set (omega (arith, c .before .before .clear3 .kept .0, c .before .before .before .before .before .before .clear2 .kept .0, c .before .before .before .before .before .before .before .before .before .before .clear .kept .0))
+slice-write-rec-3 c = simp length-set (omega (arith, c .before .before .zero-fill3 .kept .0, c .before .before .before .before .before .before .zero-fill2 .kept .0, c .before .before .before .before .before .before .before .before .before .before .zero-fill .kept .0))
 
 -- src/lib.rt:34:1
 same-length : tie.Need-same-length
 same-length c = let a = c .before .before .before .before .before .before .before .before .before .before .before .before .before .args in
-    three-kept (c .before .before .clear3 .last .0) (a .at) (a .at + 16) (a .at + 32) _ _ _ ∙ c .before .before .clear3 .kept .0 ∙ c .before .before .before .before .before .before .clear2 .kept .0 ∙ c .before .before .before .before .before .before .before .before .before .before .clear .kept .0
+    three-kept (c .before .before .zero-fill3 .last .0) (a .at) (a .at + 16) (a .at + 32) _ _ _ ∙ c .before .before .zero-fill3 .kept .0 ∙ c .before .before .before .before .before .before .zero-fill2 .kept .0 ∙ c .before .before .before .before .before .before .before .before .before .before .zero-fill .kept .0
 
 -- src/lib.rt:34:1
 returns : tie.Need-returns
@@ -79,8 +79,8 @@ returns c = let s = c .before .before .before .before .before .before .before .b
     let n = s .args .boards in
     let p = s .args .at in
     ap (λ (r : List ℕ). set (set (set r p (s .args .tokens - 1)) (p + 16) 1) (p + 32) 1)
-    (c .before .before .clear3 .ensures
-    ∙ ap (over (p + 120) (32 * (n + 1)) (λ r. replicate (32 * (n + 1)) 0)) (c .before .before .before .before .before .before .clear2 .ensures ∙ ap (over (p + 80) 34 (λ r. replicate 34 0)) (c .before .before .before .before .before .before .before .before .before .before .clear .ensures))
+    (c .before .before .zero-fill3 .ensures
+    ∙ ap (modifyAt (p + 120) (32 * (n + 1)) (λ r. replicate (32 * (n + 1)) 0)) (c .before .before .before .before .before .before .zero-fill2 .ensures ∙ ap (modifyAt (p + 80) 34 (λ r. replicate 34 0)) (c .before .before .before .before .before .before .before .before .before .before .zero-fill .ensures))
     ∙ sym (empty-is n (omega (arith, s .pre .0)) p (s .args .rec .now) (s .pre .3)))
     ∙ sym (fresh-is n (omega (arith, s .pre .0)) p (s .args .rec .now) (s .pre .3) (λ k. c .before .before .before .before .before .before .before .before .before .before .before .before .slice-known .given k .fits) (s .args .tokens) (omega (arith, s .pre .2)))
 
@@ -92,9 +92,9 @@ open-block-spec =
     mul-words
     add-sets
     add-behind
-    clear-requires
-    clear-requires-2
-    clear-requires-3
+    zero-fill-requires
+    zero-fill-requires-2
+    zero-fill-requires-3
     sub-rec
     cast-rec
     slice-write-rec

@@ -1,6 +1,6 @@
 -- `soundness::sizes_fine` meets its contract: a byte made wider is the same number.
 use mathlib.Core.Path.{_∙_}
-use Rattle.spec_rack.specs.Sound.{sizes}
+use Rattle.spec_rack.specs.Soundness.{sizes}
 use borrow.Author.Needs.{needs}
 use Rattle.record_soundness.proofs.sizes_fine.Statement.{statement}
 use Rattle.record_soundness.proofs.sizes_fine.Tie as tie

@@ -3,16 +3,16 @@ use native.Mathlib.Omega.{arith}
 use mathlib.Core.Path.{refl}
 use borrow.Author.Needs.{needs}
 use Rattle.spec_rack.specs.Rules.{answer, after}
-use Rattle.step_checks.proofs.Passed.{store-passed}
-use Rattle.step_checks.proofs.Made.{passes, made, kept}
+use Rattle.step_checks.proofs.CheckFacts.{store-passed}
+use Rattle.step_checks.proofs.StepOutcome.{passes, made, kept}
 use Rattle.step_access.proofs.store.Statement.{statement}
 use Rattle.step_access.proofs.store.Tie as tie
 
 store-check-requires : tie.Need-store-check-requires
 store-check-requires c κs = search needs
 
-passes-requires : tie.Need-passes-requires
-passes-requires c κs = search needs
+is-pass-requires : tie.Need-is-pass-requires
+is-pass-requires c κs = search needs
 
 set-word-requires : tie.Need-set-word-requires
 set-word-requires c κs =
@@ -20,7 +20,7 @@ set-word-requires c κs =
     let s = k .before .before .before in
     let known =
     store-passed (s .args .rec .now) (s .pre) (s .args .component) (s .args .block) (s .args .word) (s .args .value)
-    (passes _ _ _ (k .store-check .ensures) (c .before .before .passes .ensures) (c .before .if1 .taken)) in
+    (passes _ _ _ (k .store-check .ensures) (c .before .before .is-pass .ensures) (c .before .if1 .taken)) in
     (record { whole = known .0 .whole; block = known .0 .block; component = omega (arith, known .0 .component) }, known .1)
 
 same-length : tie.Need-same-length
@@ -30,10 +30,10 @@ returns : tie.Need-returns
 unfolding answer after
 returns c =
     let way = c .before .before .before .before in
-    made _ _ refl _ (passes _ _ _ (way .before .before .store-check .ensures) (way .before .passes .ensures) (way .if1 .taken)) (c .before .before .set-word .ensures)
+    made _ _ refl _ (passes _ _ _ (way .before .before .store-check .ensures) (way .before .is-pass .ensures) (way .if1 .taken)) (c .before .before .set-word .ensures)
 
-told-requires : tie.Need-told-requires
-told-requires c κs = search needs
+reply-of-requires : tie.Need-reply-of-requires
+reply-of-requires c κs = search needs
 
 same-length-2 : tie.Need-same-length-2
 same-length-2 c = search needs
@@ -42,17 +42,17 @@ returns-2 : tie.Need-returns-2
 unfolding answer
 returns-2 c =
     let way = c .before in
-    kept _ _ refl _ (way .before .before .store-check .ensures) (way .before .passes .ensures) (way .if1 .left) (c .told .ensures)
+    kept _ _ refl _ (way .before .before .store-check .ensures) (way .before .is-pass .ensures) (way .if1 .left) (c .reply-of .ensures)
 
 pub store-spec : {M : Type 1} → statement M
 store-spec =
     tie.close
     (tie.spec
     store-check-requires
-    passes-requires
+    is-pass-requires
     set-word-requires
     same-length
     returns
-    told-requires
+    reply-of-requires
     same-length-2
     returns-2)

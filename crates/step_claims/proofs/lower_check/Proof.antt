@@ -1,7 +1,7 @@
 -- `claiming::lower_check` meets its contract: its tests are those of the table, in order; the rest is the callee's.
 use Rattle.spec_rack.specs.Claims.{lowerCheck}
-use Rattle.step_checks.proofs.VerdictLaws.{lower-off-rack, lower-home, lower-verdict}
-use Rattle.step_checks.proofs.OnRack.{board-claims, verdict-here}
+use Rattle.step_checks.proofs.CheckLaws.{lower-off-rack, lower-home, lower-verdict}
+use Rattle.step_checks.proofs.RackBounds.{board-claims, verdict-here}
 use borrow.Author.Needs.{needs}
 use Rattle.step_claims.proofs.lower_check.Statement.{statement}
 use Rattle.step_claims.proofs.lower_check.Tie as tie
@@ -22,14 +22,14 @@ returns-2 c =
     let c3 = c2 .before in
     lower-home _ _ _ (c3 .off-rack .ensures) (c2 .if1 .left) (c1 .at-home .ensures) (c .if2 .taken)
 
-claims-place-requires : tie.Need-claims-place-requires
-claims-place-requires c κs = search needs
+claims-offset-requires : tie.Need-claims-offset-requires
+claims-offset-requires c κs = search needs
 
 lower-check-requires : tie.Need-lower-check-requires
 lower-check-requires c κs =
     let c3 = c .before .before .before in
     let c4 = c3 .before in
-    board-claims _ _ _ (c4 .off-rack .ensures) (c3 .if1 .left) (c4 .before .before .pre) _ (c .claims-place .ensures)
+    board-claims _ _ _ (c4 .off-rack .ensures) (c3 .if1 .left) (c4 .before .before .pre) _ (c .claims-offset .ensures)
 
 returns-3 : tie.Need-returns-3
 returns-3 c =
@@ -40,7 +40,7 @@ returns-3 c =
     let c5 = c4 .before in
     let c6 = c5 .before in
     lower-verdict _ _ _ (c5 .off-rack .ensures) (c4 .if1 .left) (c3 .at-home .ensures) (c2 .if2 .left)
-    (verdict-here _ _ _ (c5 .off-rack .ensures) (c4 .if1 .left) (c6 .before .pre) _ (c1 .claims-place .ensures) (λ k. c6 .shared-slice-known .given k .fits) lowerCheck (λ n l h. c .lower-check .ensures n))
+    (verdict-here _ _ _ (c5 .off-rack .ensures) (c4 .if1 .left) (c6 .before .pre) _ (c1 .claims-offset .ensures) (λ k. c6 .shared-slice-known .given k .fits) lowerCheck (λ n l h. c .lower-check .ensures n))
 
 pub lower-check-spec : {M : Type 1} → statement M
 lower-check-spec =
@@ -50,6 +50,6 @@ lower-check-spec =
     returns
     at-home-requires
     returns-2
-    claims-place-requires
+    claims-offset-requires
     lower-check-requires
     returns-3)

@@ -13,7 +13,7 @@ use Rattle.spec_wire.specs.StepRecord.{stepBytes}
 use Rattle.spec_wire.specs.Reader.{readRecord}
 use Rattle.spec_wire.specs.RoundTrip.{rewritten, replaced}
 use Rattle.spec_wire.specs.Writer.{written, placed}
-use Rattle.spec_wire.proofs.Theorems.{written-read}
+use Rattle.spec_wire.proofs.RoundTrip.{written-read}
 use borrow.Author.Needs.{needs}
 use Rattle.wire.proofs.read_and_written.Statement.{statement}
 use Rattle.wire.proofs.read_and_written.Tie as tie

@@ -14,11 +14,11 @@ use Rattle.spec_wire.specs.Reader.{readRecord}
 use Rattle.spec_base.specs.Placing.{place}
 use Rattle.spec_wire.specs.Writer.{written, placed}
 use Rattle.spec_base.proofs.Placing.{length-place}
-use Rattle.wire_writer.proofs.Writing.{written-room, written-short, placed-room}
-use Rattle.spec_wire.proofs.Machine.{step-fits}
-use Rattle.wire_writer.proofs.Writing.{refused-count, written-count}
-use Rattle.spec_wire.proofs.Sizes.{record-length}
-use Rattle.spec_wire.proofs.Theorems.{read-written}
+use Rattle.wire_writer.proofs.PlacedRecord.{written-room, written-short, placed-room}
+use Rattle.spec_wire.proofs.MachineSteps.{step-fits}
+use Rattle.wire_writer.proofs.PlacedRecord.{refused-count, written-count}
+use Rattle.spec_wire.proofs.RecordSizes.{record-length}
+use Rattle.spec_wire.proofs.RoundTrip.{read-written}
 use borrow.Author.Needs.{needs}
 use Rattle.wire.proofs.written_and_read.Statement.{statement}
 use Rattle.wire.proofs.written_and_read.Tie as tie

@@ -3,8 +3,8 @@ use mathlib.Core.Path.{sym, ap, _∙_}
 use Prim.Native.Nat.{ℕ}
 use native.Mathlib.Omega.{arith}
 use mathlib.Core.Logic.{⊎-elim}
-use Rattle.spec_wire.specs.Body.{readBody}
-use Rattle.wire_reader.proofs.ByKind.{no-kind}
+use Rattle.spec_wire.specs.Reader.{readBody}
+use Rattle.wire_reader.proofs.BodyParsing.{no-kind}
 use borrow.Author.Needs.{needs}
 use Rattle.wire_reader.proofs.read_body.Statement.{statement}
 use Rattle.wire_reader.proofs.read_body.Tie as tie
@@ -24,8 +24,8 @@ read-deliver-requires c κs = search needs
 read-claim-requires : tie.Need-read-claim-requires
 read-claim-requires c κs = search needs
 
-nothing-requires : tie.Need-nothing-requires
-nothing-requires c κs = search needs
+torn-requires : tie.Need-torn-requires
+torn-requires c κs = search needs
 
 returns : tie.Need-returns
 returns c = c .read-load .ensures ∙ ap (λ (k : ℕ). readBody k (c .before .before .before .args .body .now)) (sym (c .before .match .keys1))
@@ -44,7 +44,7 @@ returns-5 c = search needs
 
 returns-6 : tie.Need-returns-6
 returns-6 c = let s = c .before .before .before .before .args in
-    c .nothing .ensures
+    c .torn .ensures
     ∙ no-kind (s .kind) _
     (⊎-elim (λ w. omega (arith, c .before .before .match, w)) (λ w. omega (arith, c .before .before .match, w .0, w .1)) (c .before .if1 .came))
 
@@ -57,7 +57,7 @@ read-body-spec =
     read-send-requires
     read-deliver-requires
     read-claim-requires
-    nothing-requires
+    torn-requires
     returns
     returns-2
     returns-3

@@ -12,13 +12,13 @@ use lib.ListN.{length, take, drop, set, length-set, length-drop}
 use borrow.Rule.Slice.PartMut.{putMid}
 use Rattle.spec_base.specs.Number.{digits}
 use Rattle.spec_wire.specs.Kinds.{fieldOf}
-use Rattle.spec_wire.specs.StepRecord.{sizes, bodyBytes, recordBytes}
+use Rattle.spec_wire.specs.StepRecord.{fieldSizes, bodyBytes, recordBytes}
 use Rattle.spec_base.proofs.Lists.{rest-all}
-use Rattle.spec_wire.proofs.Table.{sizes-bound}
-use Rattle.spec_wire.proofs.Sizes.{length-body, length-record}
+use Rattle.spec_wire.proofs.KindTable.{sizes-bound}
+use Rattle.spec_wire.proofs.RecordSizes.{length-body, length-record}
 use Rattle.spec_base.proofs.Placing.{place-rest}
-use Rattle.wire_writer.proofs.Framing.{length-head, place-head, place-framed}
-use Rattle.wire_writer.proofs.Writing.{written-room, written-short, placed-room, placed-short}
+use Rattle.wire_writer.proofs.FieldOrder.{length-head, place-head, place-framed}
+use Rattle.wire_writer.proofs.PlacedRecord.{written-room, written-short, placed-room, placed-short}
 use borrow.Author.Needs.{needs}
 use Rattle.wire_writer.proofs.put_record.Statement.{statement}
 use Rattle.wire_writer.proofs.put_record.Tie as tie
@@ -32,7 +32,7 @@ add-total c =
     omega (arith, c .fields-size .ensures, sizes-bound (now (start .args .tags)), start .pre)
 
 -- the record's length, and the buffer after its head and its fields
-module _ (kind : ℕ) (out tags p : List ℕ) (n : ℕ) (sized : n ≡ sizes (map fieldOf tags)) where
+module _ (kind : ℕ) (out tags p : List ℕ) (n : ℕ) (sized : n ≡ fieldSizes (map fieldOf tags)) where
   abbrev body : List ℕ
   body = bodyBytes (map fieldOf tags) p
 
@@ -51,7 +51,7 @@ module _ (kind : ℕ) (out tags p : List ℕ) (n : ℕ) (sized : n ≡ sizes (ma
       ∙ ap (λ (l : List ℕ). place 3 body l) head
       ∙ rw (← count) (place-framed kind n body out (omega (arith, count)))
 
-  fields-room : (head : List ℕ) → length head ≡ length out → 3 + n ≤ length out → sizes (map fieldOf tags) ≤ length (take (length head - 3) (drop 3 head))
+  fields-room : (head : List ℕ) → length head ≡ length out → 3 + n ≤ length out → fieldSizes (map fieldOf tags) ≤ length (take (length head - 3) (drop 3 head))
   fields-room head e h = rw (rest-all head 3) (omega (arith, sized, length-drop 3 head))
 
   whole : length (recordBytes kind body) ≡ 3 + n

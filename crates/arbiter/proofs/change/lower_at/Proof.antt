@@ -1,5 +1,5 @@
 -- `change::lower_at` meets its contract: after i turns the board has left the first i barring sets; then the waiting set.
-use Rattle.arbiter.proofs.Stored.{Lowering, lower-none, lower-more, lower-is}
+use Rattle.arbiter.proofs.ClaimsChange.{Lowering, lower-none, lower-more, lower-is}
 use mathlib.Core.Path.{_≡_, subst}
 use Prim.Native.Nat.{ℕ, _-_, _≤_}
 use native.Mathlib.Omega.{arith}

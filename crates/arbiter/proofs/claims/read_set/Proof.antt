@@ -1,5 +1,5 @@
 -- `claims::read_set` meets its contract: two bytes, the high one first, make a number.
-use Rattle.arbiter.proofs.ClaimBytes.{read-set-is}
+use Rattle.arbiter.proofs.SetBytes.{read-set-is}
 use mathlib.Core.Path.{sym, _∙_}
 use Prim.Native.Nat.{_+_, _*_}
 use native.Mathlib.Omega.{arith}

@@ -1,5 +1,5 @@
 -- `claims::write_set` meets its contract: a number below 2 ^ 16 is two bytes, the high one first.
-use Rattle.arbiter.proofs.ClaimBytes.{write-set-is}
+use Rattle.arbiter.proofs.SetBytes.{write-set-is}
 use lib.ListN.{length-set}
 use native.Mathlib.Omega.{arith}
 use borrow.Author.Needs.{needs}

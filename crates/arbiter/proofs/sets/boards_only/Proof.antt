@@ -1,5 +1,5 @@
 -- `arbiter::sets::boards_only` meets its contract: bit 0 is clear, and nothing stands above bit n.
-use Rattle.arbiter.proofs.Words.{odd-boards, shr-boards}
+use Rattle.arbiter.proofs.SetBits.{odd-boards, shr-boards}
 use borrow.Author.Needs.{needs}
 use Rattle.arbiter.proofs.sets.boards_only.Statement.{statement}
 use Rattle.arbiter.proofs.sets.boards_only.Tie as tie

@@ -1,5 +1,5 @@
 -- `arbiter::sets::insert` meets its contract: an `or` with the bit is the insertion.
-use Rattle.arbiter.proofs.Words.{shl-insert}
+use Rattle.arbiter.proofs.SetBits.{shl-insert}
 use borrow.Author.Needs.{needs}
 use Rattle.arbiter.proofs.sets.insert.Statement.{statement}
 use Rattle.arbiter.proofs.sets.insert.Tie as tie

@@ -1,7 +1,7 @@
 -- `arbiter::sets::lowest` meets its contract: the zeros below the lowest member are its number.
 use native.Mathlib.Omega.{arith}
 use lib.Count.{leading-le, trailing-le}
-use Rattle.arbiter.proofs.Words.{trailing-lowest}
+use Rattle.arbiter.proofs.SetBits.{trailing-lowest}
 use Rattle.arbiter.proofs.sets.lowest.Statement.{statement}
 use Rattle.arbiter.proofs.sets.lowest.Tie as tie
 

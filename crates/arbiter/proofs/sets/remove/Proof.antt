@@ -1,6 +1,6 @@
 -- `arbiter::sets::remove` meets its contract: the bit is set and then taken off.
 use native.Mathlib.Omega.{arith}
-use Rattle.arbiter.proofs.Words.{shl-one, shl-insert, insert-above, insert-remove}
+use Rattle.arbiter.proofs.SetBits.{shl-one, shl-insert, insert-above, insert-remove}
 use borrow.Author.Needs.{needs}
 use Rattle.arbiter.proofs.sets.remove.Statement.{statement}
 use Rattle.arbiter.proofs.sets.remove.Tie as tie

@@ -2,7 +2,7 @@
 use native.Mathlib.Omega.{arith}
 use lib.Count.{ones-le}
 use borrow.Author.Needs.{needs}
-use Rattle.arbiter.proofs.Words.{ones-size}
+use Rattle.arbiter.proofs.SetBits.{ones-size}
 use Rattle.arbiter.proofs.sets.size.Statement.{statement}
 use Rattle.arbiter.proofs.sets.size.Tie as tie
 

@@ -1,6 +1,6 @@
 -- `arbiter::sets::subset` meets its contract: `a & b` is a exactly where each member of a is one of b.
 use borrow.Author.Needs.{needs}
-use Rattle.arbiter.proofs.Words.{and-subset}
+use Rattle.arbiter.proofs.SetBits.{and-subset}
 use Rattle.arbiter.proofs.sets.subset.Statement.{statement}
 use Rattle.arbiter.proofs.sets.subset.Tie as tie
 

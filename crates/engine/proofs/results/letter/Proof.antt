@@ -1,6 +1,6 @@
 -- `packing::letter` meets its contract: each arm knows its letter.
 use mathlib.Core.Path.{sym, ap}
-use Rattle.spec_rack.specs.ReplyWord.{letterNumber}
+use Rattle.spec_rack.specs.Results.{letterNumber}
 use borrow.Author.Needs.{needs}
 use Rattle.engine.proofs.results.letter.Statement.{statement}
 use Rattle.engine.proofs.results.letter.Tie as tie

@@ -1,5 +1,5 @@
 -- `packing::lettered` meets its contract: each arm knows what it was given.
-use Rattle.spec_rack.specs.ReplyWord.{packedLetter}
+use Rattle.spec_rack.specs.Results.{packedLetter}
 use mathlib.Core.Path.{sym, ap, _∙_}
 use borrow.Author.Needs.{needs}
 use Rattle.engine.proofs.results.lettered.Statement.{statement}

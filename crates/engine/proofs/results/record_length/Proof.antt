@@ -1,5 +1,5 @@
 -- `packing::record_length` meets its contract: the test of the count of blocks.
-use Rattle.engine.proofs.Lengths.{length-none, length-many, length-given}
+use Rattle.engine.proofs.RecordLengths.{length-none, length-many, length-given}
 use native.Mathlib.Omega.{arith}
 use mathlib.Core.Path.{_∙_}
 use borrow.Author.Needs.{needs}

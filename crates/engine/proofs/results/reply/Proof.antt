@@ -1,6 +1,6 @@
 -- `packing::reply` meets its contract: each arm knows its reply.
 use Rattle.spec_rack.specs.declared.Reply.the-variants.{Accepted}
-use Rattle.spec_rack.specs.ReplyWord.{packedReply}
+use Rattle.spec_rack.specs.Results.{packedReply}
 use mathlib.Core.Path.{sym, ap, _∙_}
 use borrow.Author.Needs.{needs}
 use Rattle.engine.proofs.results.reply.Statement.{statement}

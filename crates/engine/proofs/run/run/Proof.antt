@@ -1,12 +1,12 @@
 -- `running::run` meets its contract. The invariant: what is left of the list, given to what there is by now, makes what the whole makes; and soundness is as it was.
 use mathlib.Core.Path.{refl}
-use Rattle.spec_rack.specs.ReplyWord.{packedReply}
+use Rattle.spec_rack.specs.Results.{packedReply}
 use native.Mathlib.Omega.{arith}
 use lib.ListN.{length, getD}
 use Prim.Native.Nat.{ℕ, _-_, _<_}
 use mathlib.Core.Path.{_≡_, sym, ap, _∙_}
-use Rattle.spec_rack.specs.RecordSound.{soundBytes}
-use Rattle.spec_rack.proofs.RecordSteps.{sound-kept}
+use Rattle.spec_rack.specs.Soundness.{soundBytes}
+use Rattle.spec_rack.proofs.ByteLists.{sound-kept}
 use Rattle.engine.proofs.RunLaws.{Going, going-start, going-more, going-end, ended, goes}
 use borrow.Author.Needs.{needs}
 use Rattle.engine.proofs.run.run.Statement.{statement}
@@ -30,22 +30,22 @@ loop-holds c = let s = c .before .before .before .before .before .before in (
 both-requires : tie.Need-both-requires Inv-loop μ-loop
 both-requires c κs = search needs
 
-cut-requires : tie.Need-cut-requires Inv-loop μ-loop
-cut-requires c κs = let s = c .before .before .before .before .before .before .before .before .before in
+frame-end-within-requires : tie.Need-frame-end-within-requires Inv-loop μ-loop
+frame-end-within-requires c κs = let s = c .before .before .before .before .before .before .before .before .before in
     let l = c .before .before .loop in
     goes (s .args .rec .now) (s .args .list .now) (s .args .at .now) (s .args .replies .now) (l .rec) (l .replies) (l .place) (l .made) (l .inv .0) (c .before .both .result) (c .before .both .ensures) (c .if1 .taken) .1
 
-sub-next : tie.Need-sub-next Inv-loop μ-loop
+sub-next : tie.Need-sub-step-known-sound Inv-loop μ-loop
 sub-next c = search needs
 
-part-next-start : tie.Need-part-next-start Inv-loop μ-loop
+part-next-start : tie.Need-part-step-known-sound-start Inv-loop μ-loop
 part-next-start c = search needs
 
-part-next-end : tie.Need-part-next-end Inv-loop μ-loop
+part-next-end : tie.Need-part-step-known-sound-end Inv-loop μ-loop
 part-next-end c = search needs
 
-next-requires : tie.Need-next-requires Inv-loop μ-loop
-next-requires c κs = search needs
+step-known-sound-requires : tie.Need-step-known-sound-requires Inv-loop μ-loop
+step-known-sound-requires c κs = search needs
 
 reply-requires : tie.Need-reply-requires Inv-loop μ-loop
 reply-requires c κs = search needs
@@ -68,10 +68,10 @@ loop-less c = search needs
 loop-again : tie.Need-loop-again Inv-loop μ-loop
 loop-again c = let s = c .before .before .before .before .before .before .before .before .before .before .before .before .before .before .before .before in
     let l = c .before .before .before .before .before .before .before .before .before .loop in
-    let n = c .before .before .before .next in
+    let n = c .before .before .before .step-known-sound in
     let q = goes (s .args .rec .now) (s .args .list .now) (s .args .at .now) (s .args .replies .now) (l .rec) (l .replies) (l .place) (l .made) (l .inv .0) (c .before .before .before .before .before .before .before .before .both .result) (c .before .before .before .before .before .before .before .before .both .ensures) (c .before .before .before .before .before .before .before .if1 .taken) in (
       going-more (s .args .rec .now) (s .args .list .now) (s .args .at .now) (s .args .replies .now) (l .rec) (l .replies) (l .place) (l .made) (l .inv .0) (q .0) (q .1)
-          (c .before .before .before .before .before .before .cut .result) (c .before .before .before .before .before .before .cut .ensures .0) (c .reply .result) (n .last .0) (c .reply .ensures ∙ ap packedReply (n .ensures .0)) (n .ensures .1),
+          (c .before .before .before .before .before .before .frame-end-within .result) (c .before .before .before .before .before .before .frame-end-within .ensures .0) (c .reply .result) (n .last .0) (c .reply .ensures ∙ ap packedReply (n .ensures .0)) (n .ensures .1),
       (
         l .inv .1 .0 ∙ sym (ap soundBytes (n .ensures .1) ∙ sound-kept (l .rec) (l .inv .1 .1 .0) _),
         (λ k. c .before .slice-known3 .given k .fits, n .kept .0 ∙ l .inv .1 .1 .1),
@@ -98,11 +98,11 @@ run-spec =
     sound-requires
     loop-holds
     both-requires
-    cut-requires
+    frame-end-within-requires
     sub-next
     part-next-start
     part-next-end
-    next-requires
+    step-known-sound-requires
     reply-requires
     mul-replies
     slice-write-replies

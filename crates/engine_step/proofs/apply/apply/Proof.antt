@@ -1,7 +1,7 @@
 -- `steps::apply` meets its contract: each kind by its function.
 use borrow.Author.Needs.{needs}
-use Rattle.step_checks.proofs.Made.{load-leaves}
-use Rattle.engine_step.proofs.Made.{of-kind}
+use Rattle.step_checks.proofs.StepOutcome.{load-leaves}
+use Rattle.engine_step.proofs.AppliedStep.{of-kind}
 use Rattle.engine_step.proofs.apply.apply.Statement.{statement}
 use Rattle.engine_step.proofs.apply.apply.Tie as tie
 

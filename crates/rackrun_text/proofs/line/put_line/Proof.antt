@@ -7,8 +7,8 @@ use borrow.Author.Needs.{needs}
 use Rattle.rackrun_text.proofs.line.put_line.Statement.{statement}
 use Rattle.rackrun_text.proofs.line.put_line.Tie as tie
 
-told-requires : tie.Need-told-requires
-told-requires c κs = search needs
+reply-text-requires : tie.Need-reply-text-requires
+reply-text-requires c κs = search needs
 
 width-requires : tie.Need-width-requires
 width-requires c κs = search needs
@@ -26,7 +26,7 @@ put-digits-requires-2 : tie.Need-put-digits-requires-2
 put-digits-requires-2 c κs =
     let s = c .before .before .before .before .before .before .before .before in
     let put = c .before .before .before .put-digits in
-    let told = c .before .before .before .before .before .before .told .ensures in (
+    let told = c .before .before .before .before .before .before .reply-text .ensures in (
       simp length-set (omega (arith, s .pre, put .ensures .0, put .kept .0, c .before .before .before .before .width .ensures .1, told .3)),
       told .1,
       told .2,
@@ -39,14 +39,14 @@ returns : tie.Need-returns
 returns c =
     let s = c .before .before .before .before .before .before .before .before .before .before .before in
     line-placed (s .args .at) _ (s .args .index) _ _ _ _ _ (s .args .reply) (s .args .out .now) _ _ (s .pre)
-    (c .before .before .before .before .before .before .before .width .ensures .0) (c .before .before .before .before .before .before .before .before .before .told .ensures .0)
+    (c .before .before .before .before .before .before .before .width .ensures .0) (c .before .before .before .before .before .before .before .before .before .reply-text .ensures .0)
     (c .before .before .before .before .before .before .put-digits .ensures) _ (c .before .before .put-digits2 .ensures)
 
 pub put-line-spec : {M : Type 1} → statement M
 put-line-spec =
     tie.close
     (tie.spec
-    told-requires
+    reply-text-requires
     width-requires
     put-digits-requires
     slice-write-out

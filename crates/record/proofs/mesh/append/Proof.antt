@@ -3,8 +3,8 @@ use lib.ListN.{getD, set}
 use mathlib.Core.List.{List}
 use Prim.Native.Nat.{ℕ, _+_}
 use mathlib.Core.Path.{ap, _∙_}
-use Rattle.record.proofs.Leaves.{formed}
-use Rattle.record.proofs.Figures.{append-put}
+use Rattle.record.proofs.FieldAccess.{wellFormed}
+use Rattle.record.proofs.FieldOffsets.{append-put}
 use borrow.Author.Needs.{needs}
 use Rattle.record.proofs.mesh.append.Statement.{statement}
 use Rattle.record.proofs.mesh.append.Tie as tie
@@ -37,7 +37,7 @@ returns : tie.Need-returns
 returns c = let s = c .before .before .before .before .before .before in
     let r = s .args .rec .now in
     ap (λ (t : List ℕ). set t 3 (getD r 3 0 + 1)) (c .before .before .put-message .ensures)
-    ∙ append-put r (formed r (λ k. c .before .before .before .before .before .slice-known .given k .fits) (s .pre .0)) (s .args .m) (s .pre .1)
+    ∙ append-put r (wellFormed r (λ k. c .before .before .before .before .before .slice-known .given k .fits) (s .pre .0)) (s .args .m) (s .pre .1)
 
 pub append-spec : {M : Type 1} → statement M
 append-spec =

@@ -3,8 +3,8 @@ use lib.ListN.{getD, set}
 use mathlib.Core.List.{List}
 use Prim.Native.Nat.{ℕ, _-_}
 use mathlib.Core.Path.{ap, _∙_}
-use Rattle.record.proofs.Leaves.{formed}
-use Rattle.record.proofs.Figures.{removed-put}
+use Rattle.record.proofs.FieldAccess.{wellFormed}
+use Rattle.record.proofs.FieldOffsets.{removed-put}
 use borrow.Author.Needs.{needs}
 use Rattle.record.proofs.mesh.remove.Statement.{statement}
 use Rattle.record.proofs.mesh.remove.Tie as tie
@@ -30,8 +30,8 @@ cast-bytes c = search needs
 mul-bytes : tie.Need-mul-bytes
 mul-bytes c = search needs
 
-move-up-requires : tie.Need-move-up-requires
-move-up-requires c κs = search needs
+close-gap-requires : tie.Need-close-gap-requires
+close-gap-requires c κs = search needs
 
 slice-write-rec : tie.Need-slice-write-rec
 slice-write-rec c = search needs
@@ -42,8 +42,8 @@ same-length c = search needs
 returns : tie.Need-returns
 returns c = let s = c .before .before .before .before .before .before in
     let r = s .args .rec .now in
-    ap (λ (t : List ℕ). set t 3 (getD r 3 0 - 1)) (c .before .before .move-up .ensures)
-    ∙ removed-put r (formed r (λ k. c .before .before .before .before .before .slice-known .given k .fits) (s .pre .0)) (s .args .position) (s .pre .1)
+    ap (λ (t : List ℕ). set t 3 (getD r 3 0 - 1)) (c .before .before .close-gap .ensures)
+    ∙ removed-put r (wellFormed r (λ k. c .before .before .before .before .before .slice-known .given k .fits) (s .pre .0)) (s .args .position) (s .pre .1)
 
 pub remove-spec : {M : Type 1} → statement M
 remove-spec =
@@ -56,7 +56,7 @@ remove-spec =
     add-at
     cast-bytes
     mul-bytes
-    move-up-requires
+    close-gap-requires
     slice-write-rec
     same-length
     returns)

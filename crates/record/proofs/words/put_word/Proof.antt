@@ -1,5 +1,5 @@
 -- `record::words::put_word` meets its contract: four bytes, each in its place.
-use Rattle.record.proofs.Writing.{word-write}
+use Rattle.record.proofs.FieldWrites.{word-write}
 use lib.ListN.{length-set}
 use native.Mathlib.Omega.{arith}
 use borrow.Author.Needs.{needs}

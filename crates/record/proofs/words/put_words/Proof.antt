@@ -1,8 +1,8 @@
 -- `record::words::put_words` meets its contract. The invariant: the first i words are written.
 use borrow.Author.Needs.{needs}
 use Rattle.spec_base.proofs.Laws.{cut}
-use Rattle.spec_base.specs.Layout.{over, big, writeItems}
-use Rattle.record.proofs.Leaves.{lined-more, lined-all}
+use Rattle.spec_base.specs.Layout.{modifyAt, big, writeItems}
+use Rattle.record.proofs.FieldAccess.{lined-more, lined-all}
 use mathlib.Core.Path.{_≡_, refl, sym, ap, _∙_}
 use lib.ListN.{length, getD, take}
 use Prim.Native.Nat.{_≤_, _-_, _+_, _*_}
@@ -10,7 +10,7 @@ use Rattle.record.proofs.words.put_words.Statement.{statement}
 use Rattle.record.proofs.words.put_words.Tie as tie
 
 abbrev Inv-loop : tie.InvT-loop
-Inv-loop s₀ at values i₀ s i = (i ≤ 8) × ((length s ≡ length s₀) × (s ≡ over at 32 (writeItems (big 4) (take i values)) s₀))
+Inv-loop s₀ at values i₀ s i = (i ≤ 8) × ((length s ≡ length s₀) × (s ≡ modifyAt at 32 (writeItems (big 4) (take i values)) s₀))
 
 abbrev μ-loop : tie.MeasureT-loop
 μ-loop s₀ at values i₀ s i = 8 - i
@@ -46,7 +46,7 @@ loop-again c = let s = c .before .before .before .before .before .before .before
       search needs,
       (
         c .before .before .put-word .kept .0 ∙ l .inv .1 .0,
-        c .before .before .put-word .ensures ∙ ap (over (s .args .at + 4 * l .i) 4 (big 4 .write (getD (s .args .t3) (l .i) 0))) (l .inv .1 .1)
+        c .before .before .put-word .ensures ∙ ap (modifyAt (s .args .at + 4 * l .i) 4 (big 4 .write (getD (s .args .t3) (l .i) 0))) (l .inv .1 .1)
             ∙ lined-more (s .args .s .now) (s .args .at) (s .args .t3) e (s .pre) (l .i) (c .before .before .before .before .loop-test .taken),
       ),
     )

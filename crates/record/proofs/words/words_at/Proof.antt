@@ -2,8 +2,8 @@
 use Rattle.spec_base.proofs.Folds.{at-set}
 use lib.ListN.{length-set}
 use borrow.Author.Needs.{needs}
-use Rattle.spec_base.specs.Layout.{big, part}
-use Rattle.record.proofs.Leaves.{words-read}
+use Rattle.spec_base.specs.Layout.{big, slice}
+use Rattle.record.proofs.FieldAccess.{words-read}
 use mathlib.Core.Path.{_≡_, sym, ap, _∙_}
 use lib.ListN.{length, getD}
 use Prim.Native.Nat.{ℕ, _≤_, _<_, _-_, _+_, _*_}
@@ -12,7 +12,7 @@ use Rattle.record.proofs.words.words_at.Statement.{statement}
 use Rattle.record.proofs.words.words_at.Tie as tie
 
 abbrev Inv-loop : tie.InvT-loop
-Inv-loop s at out₀ i₀ out i = (i ≤ 8) × ((length out ≡ 8) × ((k : ℕ) → k < i → getD out k 0 ≡ big 4 .read (part (at + 4 * k) 4 s)))
+Inv-loop s at out₀ i₀ out i = (i ≤ 8) × ((length out ≡ 8) × ((k : ℕ) → k < i → getD out k 0 ≡ big 4 .read (slice (at + 4 * k) 4 s)))
 
 abbrev μ-loop : tie.MeasureT-loop
 μ-loop s at out₀ i₀ out i = 8 - i
@@ -48,8 +48,8 @@ loop-again c = let l = c .before .before .loop in
       (
         length-set (l .out) (l .i) (c .word-at .result) ∙ l .inv .1 .0,
         λ k h.
-            at-set (λ (w : ℕ). w ≡ big 4 .read (part (s .args .at + 4 * k) 4 (s .args .s .now))) (l .out) (l .i) k (c .word-at .result) 0 (search needs)
-            (λ e. c .word-at .ensures ∙ ap (λ (j : ℕ). big 4 .read (part (s .args .at + 4 * j) 4 (s .args .s .now))) (sym e)) (λ ne. l .inv .1 .1 k (omega arith)),
+            at-set (λ (w : ℕ). w ≡ big 4 .read (slice (s .args .at + 4 * k) 4 (s .args .s .now))) (l .out) (l .i) k (c .word-at .result) 0 (search needs)
+            (λ e. c .word-at .ensures ∙ ap (λ (j : ℕ). big 4 .read (slice (s .args .at + 4 * j) 4 (s .args .s .now))) (sym e)) (λ ne. l .inv .1 .1 k (omega arith)),
       ),
     )
 

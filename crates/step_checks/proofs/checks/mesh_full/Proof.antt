@@ -1,5 +1,5 @@
 -- `verdicts::mesh_full` meets its contract: the count of messages is the record's fourth byte.
-use Rattle.step_checks.proofs.OnRack.{full-is}
+use Rattle.step_checks.proofs.RackBounds.{full-is}
 use borrow.Author.Needs.{needs}
 use Rattle.step_checks.proofs.checks.mesh_full.Statement.{statement}
 use Rattle.step_checks.proofs.checks.mesh_full.Tie as tie

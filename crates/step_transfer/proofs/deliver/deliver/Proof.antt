@@ -5,9 +5,9 @@ use borrow.Author.Needs.{needs}
 use Rattle.spec_wire.specs.declared.Check.the-variants.{Refuse}
 use Rattle.spec_wire.specs.declared.Refusal.the-variants.{NoMessage}
 use Rattle.spec_rack.specs.Rules.{answer}
-use Rattle.spec_rack.proofs.RecordLaws.{mesh-is}
-use Rattle.step_checks.proofs.VerdictLaws.{deliver-no-message, deliver-pass}
-use Rattle.step_checks.proofs.Made.{made, kept}
+use Rattle.spec_rack.proofs.GetPut.{mesh-is}
+use Rattle.step_checks.proofs.CheckLaws.{deliver-no-message, deliver-pass}
+use Rattle.step_checks.proofs.StepOutcome.{made, kept}
 use Rattle.step_transfer.proofs.deliver.deliver.Statement.{statement}
 use Rattle.step_transfer.proofs.deliver.deliver.Tie as tie
 
@@ -18,15 +18,15 @@ returns : tie.Need-returns
 unfolding answer
 returns c = kept _ _ refl (Refuse NoMessage) (deliver-no-message _ _ (mesh-is _) (omega arith)) refl refl refl
 
-hand-over-requires : tie.Need-hand-over-requires
-hand-over-requires c κs = (c .before .before .before .before .pre, sym (deliver-pass _ _ (mesh-is _) (omega arith)))
+deliver-message-requires : tie.Need-deliver-message-requires
+deliver-message-requires c κs = (c .before .before .before .before .pre, sym (deliver-pass _ _ (mesh-is _) (omega arith)))
 
 same-length : tie.Need-same-length
 same-length c = search needs
 
 returns-2 : tie.Need-returns-2
 unfolding answer
-returns-2 c = made _ _ refl _ (sym (deliver-pass _ _ (mesh-is _) (omega arith))) (c .before .before .hand-over .ensures)
+returns-2 c = made _ _ refl _ (sym (deliver-pass _ _ (mesh-is _) (omega arith))) (c .before .before .deliver-message .ensures)
 
 pub deliver-spec : {M : Type 1} → statement M
-deliver-spec = tie.close (tie.spec slice-read-if1 returns hand-over-requires same-length returns-2)
+deliver-spec = tie.close (tie.spec slice-read-if1 returns deliver-message-requires same-length returns-2)

@@ -7,9 +7,9 @@ use Rattle.spec_wire.specs.declared.Refusal.the-variants.{Unclaimed, SelfSend, 
 use Rattle.spec_wire.proofs.RefusalTable.{goes}
 use Rattle.spec_rack.specs.Boards.{lowest}
 use Rattle.spec_rack.specs.Rules.{check}
-use Rattle.step_checks.proofs.VerdictLaws.{held-is, forward-off-rack}
-use Rattle.step_checks.proofs.OnRack.{block-on, in-cell}
-use Rattle.step_transfer.proofs.Tables.{line-is}
+use Rattle.step_checks.proofs.CheckLaws.{held-is, forward-off-rack}
+use Rattle.step_checks.proofs.RackBounds.{block-on, in-cell}
+use Rattle.step_transfer.proofs.SendTable.{line-is}
 use Rattle.step_transfer.proofs.send_check.forward_check.Statement.{statement}
 use Rattle.step_transfer.proofs.send_check.forward_check.Tie as tie
 
@@ -19,11 +19,11 @@ off-rack-requires c κs = search needs
 returns : tie.Need-returns
 returns c = forward-off-rack _ _ _ (c .before .off-rack .ensures) (c .if1 .taken)
 
-waiting-requires : tie.Need-waiting-requires
-waiting-requires c κs = (c .before .before .before .pre, block-on _ _ _ (c .before .off-rack .ensures) (c .if1 .left))
+waiting-set-requires : tie.Need-waiting-set-requires
+waiting-set-requires c κs = (c .before .before .before .pre, block-on _ _ _ (c .before .off-rack .ensures) (c .if1 .left))
 
-marks-of-requires : tie.Need-marks-of-requires
-marks-of-requires c κs =
+token-state-requires : tie.Need-token-state-requires
+token-state-requires c κs =
     let c1 = c .before in
     let c2 = c1 .before in
     in-cell _ _ _ (c2 .off-rack .ensures) (c1 .if1 .left) (c2 .before .before .pre)
@@ -62,9 +62,9 @@ returns-2 c =
     let c8 = c7 .before in
     let c9 = c8 .before in
     goes _ _ _ _ (sym (c9 .before .off-rack .ensures) ∙ c9 .if1 .left)
-    (line-is Unclaimed (c .line4 .ensures) (λ i. eqb (c8 .waiting .ensures i) 0)
-    (line-is SelfSend (c1 .line3 .ensures) (ap (eqb _) (c2 .lowest .ensures ∙ ap lowest (c8 .waiting .ensures)))
-    (line-is NoToken (c3 .line2 .ensures) (ap (λ (n : ℕ). eqb n 0) (held-is (c7 .marks-of .ensures) (c6 .held .ensures)))
+    (line-is Unclaimed (c .line4 .ensures) (λ i. eqb (c8 .waiting-set .ensures i) 0)
+    (line-is SelfSend (c1 .line3 .ensures) (ap (eqb _) (c2 .lowest .ensures ∙ ap lowest (c8 .waiting-set .ensures)))
+    (line-is NoToken (c3 .line2 .ensures) (ap (λ (n : ℕ). eqb n 0) (held-is (c7 .token-state .ensures) (c6 .held .ensures)))
     (line-is MeshFull (c4 .line .ensures) (c5 .mesh-full .ensures) refl))))
 
 pub forward-check-spec : {M : Type 1} → statement M
@@ -73,8 +73,8 @@ forward-check-spec =
     (tie.spec
     off-rack-requires
     returns
-    waiting-requires
-    marks-of-requires
+    waiting-set-requires
+    token-state-requires
     held-requires
     mesh-full-requires
     line-requires

@@ -7,37 +7,37 @@ use lib.ListN.{length}
 use borrow.Author.Tests.{le-leb, lt-leb}
 use Rattle.spec_wire.specs.declared.Refusal.{Refusal}
 use Rattle.spec_wire.specs.declared.Refusal.the-variants.{ShortBuffer}
-use Rattle.spec_wire.specs.ResultWord.{done, refused}
+use Rattle.spec_wire.specs.Results.{done, refused}
 use Rattle.spec_wire.specs.declared.Step.{Step}
 use Rattle.spec_wire.specs.declared.Reading.{Reading}
 use Rattle.spec_wire.specs.declared.Reading.the-variants.{Step as Read, Refused}
-use Rattle.spec_wire.specs.Kinds.{places}
+use Rattle.spec_wire.specs.Kinds.{fieldArray}
 use Rattle.spec_base.specs.Placing.{place}
-use Rattle.spec_wire.specs.Entries.{readAnswer, readAfter}
-use Rattle.spec_wire.proofs.Table.{places-length}
-use Rattle.wire_writer.proofs.Writing.{placed-room, placed-short}
+use Rattle.spec_wire.specs.FieldArray.{readResult, readAfter}
+use Rattle.spec_wire.proofs.KindTable.{places-length}
+use Rattle.wire_writer.proofs.PlacedRecord.{placed-room, placed-short}
 use borrow.Author.Needs.{needs}
 use Rattle.wire.proofs.exports.hyl_wire_read.Statement.{statement}
 use Rattle.wire.proofs.exports.hyl_wire_read.Tie as tie
 
 -- the three answers
 module _ (a : Reading) where
-  torn : (r : Refusal) (out : List ℕ) {n : ℕ} → Refused r ≡ a → n ≡ refused r → (n ≡ readAnswer a out) × (out ≡ readAfter a out)
-  unfolding readAnswer readAfter
+  torn : (r : Refusal) (out : List ℕ) {n : ℕ} → Refused r ≡ a → n ≡ refused r → (n ≡ readResult a out) × (out ≡ readAfter a out)
+  unfolding readResult readAfter
   torn r out e p = rw (← e) (p, refl)
 
   module _ (s : Step) (out : List ℕ) (e : Read s ≡ a) where
-    short : length out < 12 → {n : ℕ} → n ≡ refused ShortBuffer → (n ≡ readAnswer a out) × (out ≡ readAfter a out)
-    unfolding readAnswer readAfter
+    short : length out < 12 → {n : ℕ} → n ≡ refused ShortBuffer → (n ≡ readResult a out) × (out ≡ readAfter a out)
+    unfolding readResult readAfter
     short h p =
-        let no-room : length out < 0 + length (places s) = omega (arith, places-length s) in
-        rw (← e, lt-leb (0 + length (places s)) (length out) no-room) (p, placed-short (places s) 0 out no-room)
+        let no-room : length out < 0 + length (fieldArray s) = omega (arith, places-length s) in
+        rw (← e, lt-leb (0 + length (fieldArray s)) (length out) no-room) (p, placed-short (fieldArray s) 0 out no-room)
 
-    full : 12 ≤ length out → {n : ℕ} {after : List ℕ} → n ≡ done 0 → after ≡ place 0 (places s) out → (n ≡ readAnswer a out) × (after ≡ readAfter a out)
-    unfolding readAnswer readAfter
+    full : 12 ≤ length out → {n : ℕ} {after : List ℕ} → n ≡ done 0 → after ≡ place 0 (fieldArray s) out → (n ≡ readResult a out) × (after ≡ readAfter a out)
+    unfolding readResult readAfter
     full h p q =
-        let room : 0 + length (places s) ≤ length out = omega (arith, places-length s) in
-        rw (← e, le-leb (0 + length (places s)) (length out) room) (p, q ∙ placed-room (places s) 0 out room)
+        let room : 0 + length (fieldArray s) ≤ length out = omega (arith, places-length s) in
+        rw (← e, le-leb (0 + length (fieldArray s)) (length out) room) (p, q ∙ placed-room (fieldArray s) 0 out room)
 
 read-requires : tie.Need-read-requires
 read-requires c κs = search needs
@@ -53,8 +53,8 @@ returns c =
     let step = c .before .before .before in
     short _ (step .step .given .0 .0) _ (sym (step .step .given .1) ∙ step .before .before .read .ensures) (omega arith) (c .pack-refused .ensures)
 
-put-places-requires : tie.Need-put-places-requires
-put-places-requires c κs = search needs
+put-field-array-requires : tie.Need-put-field-array-requires
+put-field-array-requires c κs = search needs
 
 pack-done-requires : tie.Need-pack-done-requires
 pack-done-requires c κs = search needs
@@ -71,7 +71,7 @@ same-length c = search needs
 returns-2 : tie.Need-returns-2
 returns-2 c =
     let step = c .before .before .before .before .before .before .before in
-    full _ (step .step .given .0 .0) _ (sym (step .step .given .1) ∙ step .before .before .read .ensures) (omega arith) (c .pack-done .ensures) (c .before .before .before .put-places .ensures)
+    full _ (step .step .given .0 .0) _ (sym (step .step .given .1) ∙ step .before .before .read .ensures) (omega arith) (c .pack-done .ensures) (c .before .before .before .put-field-array .ensures)
 
 returns-3 : tie.Need-returns-3
 returns-3 c =
@@ -86,7 +86,7 @@ hyl-wire-read-spec =
     enum-known-step
     pack-refused-requires
     returns
-    put-places-requires
+    put-field-array-requires
     pack-done-requires
     enum-known-refusal
     pack-refused-requires-2

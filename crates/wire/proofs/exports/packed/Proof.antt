@@ -1,7 +1,7 @@
 -- `wire::exports::packed` meets its contract: the count or the refusal, as one number.
 use mathlib.Core.Path.{sym, ap, _∙_}
 use native.Mathlib.Omega.{arith}
-use Rattle.spec_wire.specs.Entries.{writtenAnswer}
+use Rattle.spec_wire.specs.FieldArray.{writeResult}
 use borrow.Author.Needs.{needs}
 use Rattle.wire.proofs.exports.packed.Statement.{statement}
 use Rattle.wire.proofs.exports.packed.Tie as tie
@@ -22,10 +22,10 @@ pack-refused-requires : tie.Need-pack-refused-requires
 pack-refused-requires c κs = search needs
 
 returns : tie.Need-returns
-returns c = c .pack-done .ensures ∙ ap writtenAnswer (sym (c .before .before .wrote .given .1))
+returns c = c .pack-done .ensures ∙ ap writeResult (sym (c .before .before .wrote .given .1))
 
 returns-2 : tie.Need-returns-2
-returns-2 c = c .pack-refused .ensures ∙ ap writtenAnswer (sym (c .before .before .wrote2 .given .1))
+returns-2 c = c .pack-refused .ensures ∙ ap writeResult (sym (c .before .before .wrote2 .given .1))
 
 pub packed-spec : {M : Type 1} → statement M
 packed-spec =

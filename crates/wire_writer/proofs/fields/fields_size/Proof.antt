@@ -8,14 +8,14 @@ use borrow.Author.Needs.{needs}
 use mathlib.Core.List.{map}
 use lib.ListN.{length, drop, getD, drop-of-length-le}
 use Rattle.spec_wire.specs.Kinds.{fieldOf}
-use Rattle.spec_wire.specs.StepRecord.{sizes}
+use Rattle.spec_wire.specs.StepRecord.{fieldSizes}
 use Rattle.spec_base.proofs.Lists.{map-next}
-use Rattle.spec_wire.proofs.Table.{width-fits}
+use Rattle.spec_wire.proofs.KindTable.{width-fits}
 use Rattle.wire_writer.proofs.fields.fields_size.Statement.{statement}
 use Rattle.wire_writer.proofs.fields.fields_size.Tie as tie
 
 abbrev Inv-loop : tie.InvT-loop
-Inv-loop tags sum₀ i₀ sum i = (i ≤ length tags) × (sum ≤ 7 * i) × (sum + sizes (map fieldOf (drop i tags)) ≡ sizes (map fieldOf tags))
+Inv-loop tags sum₀ i₀ sum i = (i ≤ length tags) × (sum ≤ 7 * i) × (sum + fieldSizes (map fieldOf (drop i tags)) ≡ fieldSizes (map fieldOf tags))
 
 abbrev μ-loop : tie.MeasureT-loop
 μ-loop tags sum₀ i₀ sum i = length tags - i
@@ -50,7 +50,7 @@ loop-again c =
     let at = c .before .before .before .before .loop in
     let tags = now (c .before .before .before .before .before .before .args .tags) in
     let field : c .before .field-of .result ≡ fieldOf (getD tags (at .i) 0) = c .before .field-of .ensures in
-    (omega arith, omega (arith, width c), rw field (omega (arith, ap sizes (map-next fieldOf tags (at .i) (c .before .before .before .loop-test .taken)))))
+    (omega arith, omega (arith, width c), rw field (omega (arith, ap fieldSizes (map-next fieldOf tags (at .i) (c .before .before .before .loop-test .taken)))))
 
 returns : tie.Need-returns Inv-loop μ-loop
 returns c =

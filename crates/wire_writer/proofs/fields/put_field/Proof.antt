@@ -9,25 +9,25 @@ use mathlib.Core.List.{List, [], _∷_}
 use lib.ListN.{length, take, drop, set, length-set}
 use borrow.Rule.Slice.PartMut.{putMid}
 use Rattle.spec_base.specs.Number.{digits}
-use Rattle.spec_wire.specs.StepRecord.{size, fieldBytes}
+use Rattle.spec_wire.specs.StepRecord.{fieldSize, fieldBytes}
 use Rattle.spec_base.specs.Placing.{place}
 use Rattle.spec_base.proofs.Numbers.{length-digits}
-use Rattle.wire_writer.proofs.Framing.{length-head, place-number, place-head, place-framed}
+use Rattle.wire_writer.proofs.FieldOrder.{length-head, place-number, place-head, place-framed}
 use borrow.Author.Needs.{needs}
 use Rattle.wire_writer.proofs.fields.put_field.Statement.{statement}
 use Rattle.wire_writer.proofs.fields.put_field.Tie as tie
 
 -- the buffer after the three runs of bytes
-finished : (f : Field) (v : ℕ) (out a b : List ℕ) → size f ≤ length out
+finished : (f : Field) (v : ℕ) (out a b : List ℕ) → fieldSize f ≤ length out
     → a ≡ digits (length (take 2 (drop 1 (set out 0 (f .tag))))) (f .width)
-    → b ≡ digits (length (take (size f - 3) (drop 3 (putMid 1 2 (set out 0 (f .tag)) a)))) v
-    → putMid 3 (size f - 3) (putMid 1 2 (set out 0 (f .tag)) a) b ≡ place 0 (fieldBytes f v) out
+    → b ≡ digits (length (take (fieldSize f - 3) (drop 3 (putMid 1 2 (set out 0 (f .tag)) a)))) v
+    → putMid 3 (fieldSize f - 3) (putMid 1 2 (set out 0 (f .tag)) a) b ≡ place 0 (fieldBytes f v) out
 unfolding fieldBytes
 finished f v out a b h p q =
-    let width : size f - 3 ≡ f .width = add-sub-cancel-left 3 (f .width) in
+    let width : fieldSize f - 3 ≡ f .width = add-sub-cancel-left 3 (f .width) in
     let head : putMid 1 2 (set out 0 (f .tag)) a ≡ place 1 (digits 2 (f .width)) (place 0 (f .tag ∷ []) out) = place-head (f .tag) (f .width) out a (omega arith) p in
     let long : length (putMid 1 2 (set out 0 (f .tag)) a) ≡ length out = ap length head ∙ length-head (f .tag) (f .width) out (omega arith) in
-    place-number 3 (size f) v (putMid 1 2 (set out 0 (f .tag)) a) b (omega arith) q
+    place-number 3 (fieldSize f) v (putMid 1 2 (set out 0 (f .tag)) a) b (omega arith) q
     ∙ rw (width, head) (place-framed (f .tag) (f .width) (digits (f .width) v) out (omega (arith, length-digits (f .width) v)))
 
 add-end : tie.Need-add-end

@@ -8,11 +8,11 @@ use denote.Ref.{now}
 use lib.ListN.{length, getD, take, drop, length-drop, drop-of-length-le}
 use borrow.Rule.Slice.PartMut.{putMid}
 use Rattle.spec_wire.specs.declared.Field.{Field}
-use Rattle.spec_wire.specs.Kinds.{fieldOf, get}
-use Rattle.spec_wire.specs.StepRecord.{size, sizes, fieldBytes, bodyBytes}
+use Rattle.spec_wire.specs.Kinds.{fieldOf, valueOf}
+use Rattle.spec_wire.specs.StepRecord.{fieldSize, fieldSizes, fieldBytes, bodyBytes}
 use Rattle.spec_base.specs.Placing.{place}
 use Rattle.spec_base.proofs.Lists.{map-next, rest-all}
-use Rattle.spec_wire.proofs.Sizes.{length-field}
+use Rattle.spec_wire.proofs.RecordSizes.{length-field}
 use Rattle.spec_base.proofs.Placing.{length-place, place-none, place-more, place-rest}
 use Rattle.wire_writer.proofs.fields.put_fields.Statement.{statement}
 use Rattle.wire_writer.proofs.fields.put_fields.Tie as tie
@@ -21,22 +21,22 @@ use Rattle.wire_writer.proofs.fields.put_fields.Tie as tie
 record Placed (tags p out₀ out : List ℕ) (at i : ℕ) : Type 0 where
   within : i ≤ length tags
   long : length out ≡ length out₀
-  room : at + sizes (map fieldOf (drop i tags)) ≤ length out
+  room : at + fieldSizes (map fieldOf (drop i tags)) ≤ length out
   whole : place at (bodyBytes (map fieldOf (drop i tags)) p) out ≡ place 0 (bodyBytes (map fieldOf tags) p) out₀
 
 -- a turn of the loop
 module _ (tags p out₀ out : List ℕ) (at i : ℕ) (h : Placed tags p out₀ out at i) (more : i < length tags) where
-  space : (f : Field) → f ≡ fieldOf (getD tags i 0) → at + size f + sizes (map fieldOf (drop (i + 1) tags)) ≤ length out
-  space f is = rw is (omega (arith, h .room, ap sizes (map-next fieldOf tags i more)))
+  space : (f : Field) → f ≡ fieldOf (getD tags i 0) → at + fieldSize f + fieldSizes (map fieldOf (drop (i + 1) tags)) ≤ length out
+  space f is = rw is (omega (arith, h .room, ap fieldSizes (map-next fieldOf tags i more)))
 
-  turn : (f : Field) (n v : ℕ) (part : List ℕ) → f ≡ fieldOf (getD tags i 0) → v ≡ get f p → n ≡ size f
+  turn : (f : Field) (n v : ℕ) (part : List ℕ) → f ≡ fieldOf (getD tags i 0) → v ≡ valueOf f p → n ≡ fieldSize f
       → part ≡ place 0 (fieldBytes f v) (take (length out - at) (drop at out))
       → Placed tags p out₀ (putMid at (length out - at) out part) (at + n) (i + 1)
   turn f n v part is read sized said =
-      let bytes : List ℕ = fieldBytes f (get f p) in
+      let bytes : List ℕ = fieldBytes f (valueOf f p) in
       let rest : List ℕ = bodyBytes (map fieldOf (drop (i + 1) tags)) p in
-      let count : length bytes ≡ size f = length-field f (get f p) in
-      let fits : at + size f + sizes (map fieldOf (drop (i + 1) tags)) ≤ length out = space f is in
+      let count : length bytes ≡ fieldSize f = length-field f (valueOf f p) in
+      let fits : at + fieldSize f + fieldSizes (map fieldOf (drop (i + 1) tags)) ≤ length out = space f is in
       let now-out : putMid at (length out - at) out part ≡ place at bytes out = rw (said, read) (place-rest at bytes out (omega arith)) in
       let now-long : length (place at bytes out) ≡ length out = length-place at bytes out (omega arith) in
       let parts : bytes ++ rest ≡ bodyBytes (map fieldOf (drop i tags)) p = rw (map-next fieldOf tags i more, is) in

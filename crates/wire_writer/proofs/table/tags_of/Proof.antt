@@ -6,7 +6,7 @@ use mathlib.Core.List.{[], _∷_}
 use Rattle.spec_wire.specs.declared.Tags.{Tags}
 use Rattle.spec_wire.specs.Kinds.{fieldOf, kindOf, TagsOf}
 use Rattle.spec_base.proofs.Lists.{each-at}
-use Rattle.spec_wire.proofs.Table.{kind-none}
+use Rattle.spec_wire.proofs.KindTable.{kind-none}
 use Rattle.wire_writer.proofs.table.tags_of.Statement.{statement}
 use Rattle.wire_writer.proofs.table.tags_of.Tie as tie
 

@@ -1,0 +1,139 @@
+-- The figures of a cell and of a message, byte by byte, and the bytes that make a record of the layout's form: by the laws of pairs and of items.
+use Prim.Native.Nat.{ℕ, suc, _+_, _*_, _≤_}
+use native.Mathlib.Nat.{le-refl}
+use native.Mathlib.Omega.{arith}
+use mathlib.Core.Path.{_≡_, refl, sym, ap, _∙_}
+use mathlib.Core.Bool.{Bool, true, _&&_}
+use mathlib.Core.List.{List}
+use lib.ListN.{length, getD, take, drop}
+use lib.Seq.{getD-take, getD-drop}
+use lib.Dec.{eqb, ltb}
+use Rattle.spec_base.specs.Folds.{allBelow, all}
+use Rattle.spec_base.proofs.Tests.{and-true}
+use Rattle.spec_base.proofs.Folds.{below-of, below-same}
+use Rattle.spec_base.specs.Layout.{slice, byte, flag, big, pair, items, wellFormedItems, zeroed}
+use Rattle.spec_base.proofs.Laws.{length-readItems}
+use Rattle.spec_base.proofs.Places.{read-byte, read-pair, formed-below}
+use Rattle.spec_rack.specs.RecordLayout.{claims}
+use Rattle.spec_rack.specs.RecordLayout.{messageSize, messageOffset, blockSize, blockOffset, claimsOffset, tokens, words, endpoints, messageHeader, toMessage, message, tokenLanes, block, header, rackLayout, layoutOf}
+use Rattle.spec_rack.proofs.LayoutParts.{heading-size, words-size, message-size, lanes-size, claims-size, block-size, header-size, blockTokens, blockClaims, blockWords}
+use Rattle.record.proofs.FieldOffsets.{header-formed}
+use Rattle.spec_base.proofs.Padded.{formed-room, formed-zeroed, padded-read}
+use Rattle.spec_base.proofs.Forms.{formed-pair, formed-items, numbers-zero}
+
+-- ---- words
+
+pub words-eight : (t : List ℕ) → length (words .read t) ≡ 8
+unfolding words
+words-eight t = length-readItems (big 4) 8 t
+
+-- the words are all 0 where all their bytes are
+pub words-zero : (s : List ℕ) (at : ℕ) → all (eqb 0) (words .read (slice at 32 s)) ≡ allBelow 32 (λ i. eqb (getD s (at + i) 0) 0)
+unfolding words
+words-zero s at =
+    numbers-zero 4 8 (slice at 32 s)
+    ∙ below-same (λ i. eqb (getD (slice at 32 s) i 0) 0) (λ i. eqb (getD s (at + i) 0) 0) 32
+    (λ i l. ap (λ (n : ℕ). eqb n 0) (getD-take 32 (drop at s) i 0 l ∙ getD-drop at s i 0))
+
+-- ---- bytes and state
+
+module _ (s : List ℕ) where
+  flag-read : (p q : ℕ) → p ≡ q → flag .read (slice p 1 s) ≡ eqb (getD s q 0) 1
+  flag-read p q e = ap (λ (n : ℕ). eqb n 1) (read-byte p s) ∙ ap (λ (k : ℕ). eqb (getD s k 0) 1) e
+
+  pub flag-formed : (p q : ℕ) → p ≡ q → flag .wellFormed (slice p 1 s) ≡ ltb (getD s q 0) 2
+  flag-formed p q e = ap (λ (n : ℕ). ltb n 2) (read-byte p s) ∙ ap (λ (k : ℕ). ltb (getD s k 0) 2) e
+
+  byte-read : (p q : ℕ) → p ≡ q → byte .read (slice p 1 s) ≡ getD s q 0
+  byte-read p q e = read-byte p s ∙ ap (λ (k : ℕ). getD s k 0) e
+
+-- ---- a message at a place
+
+module _ (s : List ℕ) (at : ℕ) where
+  heading-read : messageHeader .read (slice at 8 s)
+      ≡ ((getD s at 0, (getD s (at + 1) 0, getD s (at + 2) 0)), (getD s (at + 3) 0, (eqb (getD s (at + 4) 0) 1, eqb (getD s (at + 5) 0) 1)))
+  unfolding messageHeader
+  heading-read =
+      padded-read 8 (pair endpoints tokens) (omega arith) at s zeroed
+      ∙ read-pair endpoints tokens at s
+      ∙ (λ i. (
+        (read-pair byte (pair byte byte) at s
+            ∙ (λ j. (read-byte at s j, (read-pair byte byte (at + 1) s ∙ (λ k. (read-byte (at + 1) s k, byte-read s (at + 1 + 1) (at + 2) (omega arith) k))) j))) i,
+        (read-pair byte (pair flag flag) (at + 3) s
+            ∙ (λ j. (
+              read-byte (at + 3) s j,
+              (read-pair flag flag (at + 3 + 1) s ∙ (λ k. (flag-read s (at + 3 + 1) (at + 4) (omega arith) k, flag-read s (at + 3 + 1 + 1) (at + 5) (omega arith) k))) j,
+            ))) i,
+      ))
+
+  pub message-read : message .read (slice at 40 s)
+      ≡ record {
+        sender = getD s at 0;
+        target = getD s (at + 1) 0;
+        block = getD s (at + 2) 0;
+        plain = getD s (at + 3) 0;
+        owner = eqb (getD s (at + 4) 0) 1;
+        «data» = eqb (getD s (at + 5) 0) 1;
+        words = words .read (slice (at + 8) 32 s);
+      }
+  unfolding message
+  message-read =
+      ap toMessage
+      ((λ i. pair messageHeader words .read (slice at (sym heading-size i + sym words-size i) s))
+      ∙ read-pair messageHeader words at s
+      ∙ (λ i. (messageHeader .read (slice at (heading-size i) s), words .read (slice (at + heading-size i) (words-size i) s)))
+      ∙ (λ i. (heading-read i, words .read (slice (at + 8) 32 s))))
+
+  -- the owner's mark and data are state, and the two bytes behind them are 0
+  pub message-formed : message .wellFormed (slice at 40 s) ≡ ((ltb (getD s (at + 4) 0) 2 && ltb (getD s (at + 5) 0) 2) && allBelow 2 (λ i. eqb (getD s (at + 6 + i) 0) 0))
+  unfolding message messageHeader words
+  message-formed =
+      formed-pair messageHeader words at s
+      ∙ (λ i. messageHeader .wellFormed (slice at 8 s) && words-formed (slice (at + 8) 32 s) i)
+      ∙ and-true (messageHeader .wellFormed (slice at 8 s))
+      ∙ formed-zeroed 8 (pair endpoints tokens) (omega arith) at s
+      ∙ ap (λ (t : Bool). t && allBelow 2 (λ i. eqb (getD s (at + 6 + i) 0) 0))
+      (formed-pair endpoints tokens at s
+      ∙ formed-pair byte (pair flag flag) (at + 3) s
+      ∙ formed-pair flag flag (at + 3 + 1) s
+      ∙ (λ i. flag-formed s (at + 3 + 1) (at + 4) (omega arith) i && flag-formed s (at + 3 + 1 + 1) (at + 5) (omega arith) i))
+    where
+      words-formed : (t : List ℕ) → wellFormedItems (big 4) 8 t ≡ true
+      words-formed t = formed-below (big 4) 8 t ∙ below-of (λ i. true) 8 (λ i l. refl)
+
+-- ---- the record is of the layout's form where each message is, and of each block the lanes and the claims
+
+words-formed : (t : List ℕ) → words .wellFormed t ≡ true
+unfolding words
+words-formed t = formed-below (big 4) 8 t ∙ below-of (λ i. true) 8 (λ i l. refl)
+
+module _ (s : List ℕ) where
+  pub block-formed : (n at : ℕ) → n ≤ 15 → block n .wellFormed (slice at 632 s) ≡ (tokenLanes n .wellFormed (slice at 48 s) && claims n .wellFormed (slice (at + claimsOffset) 34 s))
+  unfolding block
+  block-formed n at h =
+      ap (λ (z : ℕ). block n .wellFormed (slice at z s)) (sym (block-size n))
+      ∙ formed-pair (blockTokens n) (pair (blockClaims n) (blockWords n)) at s
+      ∙ (λ i.
+      (formed-room 80 (tokenLanes n) (rw (lanes-size n) (omega arith)) at s ∙ ap (λ (z : ℕ). tokenLanes n .wellFormed (slice at z s)) (lanes-size n)) i
+      && (formed-pair (blockClaims n) (blockWords n) (at + 80) s
+      ∙ (λ j. blockClaims n .wellFormed (slice (at + 80) 40 s) && all-words n (slice (at + 80 + 40) (16 * words .size) s) j)
+      ∙ and-true (blockClaims n .wellFormed (slice (at + 80) 40 s))
+      ∙ formed-room 40 (claims n) (rw (claims-size n) (omega arith)) (at + 80) s ∙ ap (λ (z : ℕ). claims n .wellFormed (slice (at + 80) z s)) (claims-size n)) i)
+    where
+      all-words : (k : ℕ) (t : List ℕ) → wellFormedItems words (suc k) t ≡ true
+      all-words k t = formed-below words (suc k) t ∙ below-of (λ i. words .wellFormed (slice (i * words .size) (words .size) t)) (suc k) (λ i l. words-formed (slice (i * words .size) (words .size) t))
+
+  pub record-formed : getD s 3 0 ≤ 64
+      → layoutOf s .wellFormed s
+      ≡ (allBelow (getD s 3 0) (λ i. message .wellFormed (slice (messageOffset i) messageSize s)) && allBelow (getD s 1 0) (λ b. block (getD s 0 0) .wellFormed (slice (blockOffset b) blockSize s)))
+  unfolding rackLayout
+  record-formed hm =
+      let n : ℕ = getD s 0 0 in
+      let b : ℕ = getD s 1 0 in
+      let m : ℕ = getD s 3 0 in
+      (λ i. header-formed (take (header .size) s) i && pair (items message 64 m) (items (block n) b b) .wellFormed (slice (header-size i) (64 * message .size + b * block n .size) s))
+      ∙ formed-pair (items message 64 m) (items (block n) b b) 32 s
+      ∙ (λ i.
+      formed-items message 40 message-size 64 m 32 s hm i
+      && (formed-items (block n) 632 (block-size n) b b (32 + 64 * message .size) s (le-refl b)
+      ∙ (λ j. allBelow b (λ k. block n .wellFormed (slice (32 + 64 * message-size j + 632 * k) 632 s)))) i)

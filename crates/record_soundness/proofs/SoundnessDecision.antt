@@ -1,0 +1,360 @@
+-- What the passes over the bytes decide is soundness: the loops a turn at a time, and one sum for each block, which counts owners and tokens.
+use Prim.Native.Nat.{ℕ, zero, suc, _+_, _*_, _≤_, _<_}
+use native.Mathlib.Nat.{zero-add}
+use native.Mathlib.Omega.{arith}
+use mathlib.Core.Path.{_≡_, refl, sym, ap, _∙_, subst}
+use mathlib.Core.Bool.{Bool, true, false, cond, _&&_, and-comm, and-assoc}
+use mathlib.Core.List.{List}
+use lib.ListN.{length, getD, set}
+use lib.Dec.{eqb, leb, ltb}
+use borrow.Author.Tests.{eq-eqb, ne-eqb, eqb-true, le-leb, leb-true, lt-leb, ltb-true}
+use Rattle.spec_base.specs.Folds.{toℕ, allBelow, sumBelow, sum, all}
+use Rattle.spec_base.specs.Number.{Bytes}
+use Rattle.spec_base.specs.Layout.{slice}
+use Rattle.spec_base.proofs.Tests.{and-l, and-r, and-of, and-left, and-right, and-known, same-test, one-lt, eqb-one, cond-of}
+use Rattle.spec_base.proofs.Folds.{below-of, below-at, below-same, at-set, every-below, sum-next, sum-most, sum-below, sum-short, sum-scaled}
+use Rattle.spec_rack.specs.Claims.{soundClaims}
+use Rattle.spec_rack.specs.RecordLayout.{claims}
+use Rattle.spec_rack.specs.RecordLayout.{claimsAtOffset as claimsBytes}
+use Rattle.spec_rack.specs.declared.Message.{Message}
+use Rattle.spec_rack.specs.Rack.{Cell, meshLimit, owners, held, carried, noCell, noMessage, blockAt, cellAt, messageAt, tokensOf, ownersOf}
+use Rattle.spec_rack.specs.Soundness.{sizes, soundCell, soundMessage, soundBlock, sound}
+use Rattle.spec_rack.specs.RecordLayout.{messageOffset, blockOffset, ownerOffset, validOffset, claimsOffset, wordsOffset, wordsSize, Tokens, words, toCell, message, tokenLanes, block, recordLength, layoutOf, get}
+use Rattle.spec_rack.specs.Soundness.{wellFormedRecord, soundBytes}
+use Rattle.spec_rack.proofs.GetPut.{Formed, formed-of, well-formed, boards-is, blocks-is, tokens-is, mesh-is}
+use Rattle.record.proofs.FieldOffsets.{cells-many, tokens-at, words-at, claims-at, message-at, message-stands}
+use Rattle.record.proofs.FieldBytes.{words-eight, message-read, message-formed, block-formed, record-formed}
+use Rattle.record_soundness.specs.Lanes.{plainAt, ownerAt, validAt, soundLane, soundLanes, unusedLanesEmpty, laneSum, tokenSumAt}
+use Rattle.record_soundness.specs.Messages.{soundMessageAt}
+use Rattle.record_soundness.specs.Decision.{carriedSumAt, sumInFlight, tokensTotal, soundClaimsAt, soundBlockAt}
+use Rattle.record_soundness.proofs.LaneLaws.{lane-cell, Lanes, lanes-facts, lanes-form, lanes-fine, lanes-same}
+
+-- ---- the weights
+
+weight-most : (s : List ℕ) → Bytes s → (at : ℕ) → tokenSumAt s at ≤ 16711935
+weight-most s h at = omega (arith, h at, h (at + 1))
+
+module _ (s : List ℕ) where
+  pub flying-none : (k : ℕ) → sumInFlight s 0 k ≡ 0
+  unfolding sumInFlight sumBelow
+  flying-none k = refl
+
+  pub flying-next : (i k : ℕ) → sumInFlight s (i + 1) k ≡ carriedSumAt s k (32 + 40 * i) + sumInFlight s i k
+  unfolding sumInFlight
+  flying-next i k = sum-next (λ j. carriedSumAt s k (32 + 40 * j)) i
+
+  module _ (h : Bytes s) where
+    pub flying-most : (m k : ℕ) → sumInFlight s m k ≤ m * 16711935
+    unfolding sumInFlight
+    flying-most m k =
+        sum-most (λ i. carriedSumAt s k (32 + 40 * i)) 16711935 m
+        (λ i l. cond-of (λ w. w ≤ 16711935) (eqb (getD s (32 + 40 * i + 2) 0) k) (tokenSumAt s (32 + 40 * i + 3)) 0 (weight-most s h (32 + 40 * i + 3)) (omega arith))
+
+  -- the sums after one message more
+  pub sums-turn : (sums : List ℕ) (i b v : ℕ) → length sums ≡ 32 → b < 32 → b ≡ getD s (32 + 40 * i + 2) 0 → v ≡ tokenSumAt s (32 + 40 * i + 3) + getD sums b 0
+      → ((k : ℕ) → k < 32 → getD sums k 0 ≡ sumInFlight s i k) → (k : ℕ) → k < 32 → getD (set sums b v) k 0 ≡ sumInFlight s (i + 1) k
+  sums-turn sums i b v n l eb ev f k q =
+      at-set (λ w. w ≡ sumInFlight s (i + 1) k) sums b k v 0 (omega arith)
+      (λ (e : k ≡ b).
+      ev ∙ (λ j. tokenSumAt s (32 + 40 * i + 3) + (ap (λ (z : ℕ). getD sums z 0) (sym e) ∙ f k q) j)
+      ∙ ap (λ (t : Bool). cond t (tokenSumAt s (32 + 40 * i + 3)) 0 + sumInFlight s i k) (sym (eq-eqb (getD s (32 + 40 * i + 2) 0) k (sym eb ∙ sym e)))
+      ∙ sym (flying-next i k))
+      (λ (ne : k ≡ b → ⊥).
+      f k q
+      ∙ sym (zero-add (sumInFlight s i k))
+      ∙ ap (λ (t : Bool). cond t (tokenSumAt s (32 + 40 * i + 3)) 0 + sumInFlight s i k) (sym (ne-eqb (getD s (32 + 40 * i + 2) 0) k (λ e. ne (sym e ∙ sym eb))))
+      ∙ sym (flying-next i k))
+
+-- ---- a sum of weights is a sum of tokens and a sum of owners
+
+sums-split : (w f g : ℕ → ℕ) (k : ℕ) → ((i : ℕ) → i < k → w i ≡ f i + 65535 * g i) → sumBelow k w ≡ sumBelow k f + 65535 * sumBelow k g
+unfolding sumBelow
+sums-split w f g zero e = refl
+sums-split w f g (suc k) e = omega (arith, e k (omega arith), sums-split w f g k (λ i l. e i (omega arith)))
+
+-- of the elements of a list, of which each has fewer than 257 tokens
+module _ {A : Type 0} (d : A) (l : List A) (n : ℕ) (len : length l ≡ n) (f g : A → ℕ) where
+  list-split : (w : ℕ → ℕ) → ((i : ℕ) → i < n → w i ≡ f (getD l i d) + 65535 * g (getD l i d)) → sumBelow n w ≡ sum f l + 65535 * sum g l
+  list-split w e =
+      sums-split w (λ i. f (getD l i d)) (λ i. g (getD l i d)) n e
+      ∙ (λ i. (ap (λ (k : ℕ). sumBelow k (λ j. f (getD l j d))) (sym len) ∙ sym (sum-below d f l)) i
+      + 65535 * (ap (λ (k : ℕ). sumBelow k (λ j. g (getD l j d))) (sym len) ∙ sym (sum-below d g l)) i)
+
+  list-most : ((i : ℕ) → i < n → f (getD l i d) ≤ 256) → sum f l ≤ n * 256
+  list-most e =
+      subst (λ (v : ℕ). v ≤ n * 256) (ap (λ (k : ℕ). sumBelow k (λ j. f (getD l j d))) (sym len) ∙ sym (sum-below d f l))
+      (sum-most (λ i. f (getD l i d)) 256 n e)
+
+-- the two halves
+halves : (v w a x b y t : ℕ) → v ≡ a + 65535 * x → w ≡ b + 65535 * y → a + b < 65535 → t < 256
+    → eqb (v + w) (t + 65535) ≡ (eqb (a + b) t && eqb (x + y) 1)
+halves v w a x b y t p q l h =
+    same-test (eqb (v + w) (t + 65535)) (eqb (a + b) t && eqb (x + y) 1)
+    (λ e. and-of (eqb (a + b) t) (eqb (x + y) 1) (eq-eqb (a + b) t (omega (arith, eqb-true (v + w) (t + 65535) e))) (eq-eqb (x + y) 1 (omega (arith, eqb-true (v + w) (t + 65535) e))))
+    (λ e. eq-eqb (v + w) (t + 65535) (omega (arith, eqb-true (a + b) t (and-l (eqb (a + b) t) (eqb (x + y) 1) e), eqb-true (x + y) 1 (and-r (eqb (a + b) t) (eqb (x + y) 1) e))))
+
+-- ---- a record of the layout's form
+
+-- a plain count and an owner's mark by their weight
+marked-weight : (p o v : ℕ) → (ltb o 2 && ltb v 2) ≡ true → p + o * 65536 ≡ (p + toℕ (eqb o 1)) + 65535 * toℕ (eqb o 1)
+marked-weight p o v q = omega (arith, eqb-one o (ltb-true o 2 (and-l (ltb o 2) (ltb v 2) q)))
+
+chosen-weight : (t : Bool) (w a x : ℕ) → w ≡ a + 65535 * x → cond t w 0 ≡ cond t a 0 + 65535 * cond t x 0
+chosen-weight true w a x e = e
+chosen-weight false w a x e = refl
+
+module _ (s : List ℕ) (ok : Formed s) where
+  abbrev n : ℕ
+  n = getD s 0 0
+
+  abbrev b : ℕ
+  b = getD s 1 0
+
+  abbrev t : ℕ
+  t = getD s 2 0
+
+  abbrev m : ℕ
+  m = getD s 3 0
+
+  -- ---- messages
+
+  messages-same : all (soundMessage (get s .boards) (length (get s .blocks))) (get s .mesh) ≡ allBelow m (λ i. soundMessageAt n b s (32 + 40 * i))
+  unfolding soundMessageAt
+  messages-same =
+      every-below noMessage (soundMessage (get s .boards) (length (get s .blocks))) (get s .mesh)
+      ∙ (λ i. allBelow (mesh-is s i) (λ j. soundMessage (boards-is s i) (blocks-is s i) (messageAt (get s) j)))
+      ∙ below-same (λ j. soundMessage n b (messageAt (get s) j)) (λ j. soundMessageAt n b s (32 + 40 * j)) m
+      (λ j l. ap (soundMessage n b) (message-at s ok j l)
+      ∙ sym (and-known (message .wellFormed (slice (32 + 40 * j) 40 s)) (soundMessage n b (message .read (slice (32 + 40 * j) 40 s))) (message-stands s ok j l .wellFormed)))
+
+  -- of the message at a place: its block, tokens and owners
+  module _ (k i : ℕ) (l : i < m) where
+    abbrev at : ℕ
+    at = 32 + 40 * i
+
+    message-bytes : messageAt (get s) i
+        ≡ record {
+          sender = getD s at 0;
+          target = getD s (at + 1) 0;
+          block = getD s (at + 2) 0;
+          plain = getD s (at + 3) 0;
+          owner = eqb (getD s (at + 4) 0) 1;
+          «data» = eqb (getD s (at + 5) 0) 1;
+          words = words .read (slice (at + 8) 32 s);
+        }
+    message-bytes = message-at s ok i l ∙ message-read s at
+
+    message-weight : carriedSumAt s k at ≡ cond (eqb (messageAt (get s) i .block) k) (carried (messageAt (get s) i)) 0 + 65535 * cond (eqb (messageAt (get s) i .block) k) (owners (messageAt (get s) i .owner)) 0
+    message-weight =
+        subst (λ (x : Message). carriedSumAt s k at ≡ cond (eqb (x .block) k) (carried x) 0 + 65535 * cond (eqb (x .block) k) (owners (x .owner)) 0) (sym message-bytes)
+        (chosen-weight (eqb (getD s (at + 2) 0) k) (tokenSumAt s (at + 3)) (getD s (at + 3) 0 + toℕ (eqb (getD s (at + 4) 0) 1)) (toℕ (eqb (getD s (at + 4) 0) 1))
+        (ap (λ (j : ℕ). getD s (at + 3) 0 + getD s j 0 * 65536) (let e : at + 3 + 1 ≡ at + 4 = omega arith in e)
+        ∙ marked-weight (getD s (at + 3) 0) (getD s (at + 4) 0) (getD s (at + 5) 0) (and-l _ _ (sym (message-formed s at) ∙ message-stands s ok i l .wellFormed))))
+
+    message-most : cond (eqb (messageAt (get s) i .block) k) (carried (messageAt (get s) i)) 0 ≤ 256
+    message-most =
+        subst (λ (x : Message). cond (eqb (x .block) k) (carried x) 0 ≤ 256) (sym message-bytes)
+        (cond-of (λ w. w ≤ 256) (eqb (getD s (at + 2) 0) k) (getD s (at + 3) 0 + toℕ (eqb (getD s (at + 4) 0) 1)) 0
+        (omega (arith, ok .bytes (at + 3), one-lt (eqb (getD s (at + 4) 0) 1))) (omega arith))
+
+  -- ---- cells
+
+  module _ (k : ℕ) (hk : k < b) where
+    abbrev home : ℕ
+    home = blockOffset k
+
+    block-form : (tokenLanes n .wellFormed (slice home 48 s) && claims n .wellFormed (slice (home + claimsOffset) 34 s)) ≡ true
+    block-form =
+        sym (block-formed s n home (ok .boards))
+        ∙ below-at (λ j. block n .wellFormed (slice (blockOffset j) 632 s)) b
+        (and-r (allBelow m (λ i. message .wellFormed (slice (messageOffset i) 40 s))) (allBelow b (λ j. block n .wellFormed (slice (blockOffset j) 632 s))) (sym (record-formed s (ok .messages)) ∙ ok .wellFormed)) k hk
+
+    lanes : Lanes n home s (ok .boards)
+    lanes = lanes-facts n home s (ok .boards) (and-l (tokenLanes n .wellFormed (slice home 48 s)) (claims n .wellFormed (slice (home + claimsOffset) 34 s)) block-form)
+
+    cells-length : length (blockAt (get s) k .cells) ≡ suc n
+    cells-length = cells-many s ok k hk
+
+    module _ (c : ℕ) (hc : c < suc n) where
+      known-cell : c ≤ n
+      known-cell = omega arith
+
+      cell-bytes : cellAt (get s) k c
+          ≡ record { plain = plainAt s home c; owner = eqb (ownerAt s home c) 1; valid = eqb (validAt s home c) 1; words = cellAt (get s) k c .words }
+      cell-bytes =
+          ap (λ (v : Tokens). toCell (v, cellAt (get s) k c .words))
+          (tokens-at s ok k c hk known-cell (home + c) refl
+          ∙ (λ i. (getD s (home + c) 0, (eqb (getD s (let e : home + c + ownerOffset ≡ home + ownerOffset + c = omega arith in e i) 0) 1, eqb (getD s (let e : home + c + validOffset ≡ home + validOffset + c = omega arith in e i) 0) 1))))
+
+      cell-weight : plainAt s home c + ownerAt s home c * 65536 ≡ held (cellAt (get s) k c) + 65535 * owners (cellAt (get s) k c .owner)
+      cell-weight =
+          subst (λ (x : Cell). plainAt s home c + ownerAt s home c * 65536 ≡ held x + 65535 * owners (x .owner)) (sym cell-bytes)
+          (omega (arith, eqb-one (ownerAt s home c) (lanes .owners c known-cell)))
+
+      cell-most : held (cellAt (get s) k c) ≤ 256
+      cell-most =
+          subst (λ (x : Cell). held x ≤ 256) (sym cell-bytes) (omega (arith, ok .bytes (home + c), one-lt (eqb (ownerAt s home c) 1)))
+
+      cell-same : soundCell (cellAt (get s) k c) ≡ soundLane s home c
+      cell-same =
+          ap soundCell cell-bytes
+          ∙ lane-cell (plainAt s home c) (ownerAt s home c) (validAt s home c) (cellAt (get s) k c .words) (lanes .owners c known-cell) (lanes .valids c known-cell)
+          (ap length (words-at s ok k c hk known-cell (home + wordsOffset + wordsSize * c) refl) ∙ words-eight (slice (home + wordsOffset + wordsSize * c) 32 s))
+
+    cells-same : all soundCell (blockAt (get s) k .cells) ≡ (soundLanes s home && unusedLanesEmpty n s home)
+    cells-same =
+        every-below noCell soundCell (blockAt (get s) k .cells)
+        ∙ ap (λ (z : ℕ). allBelow z (λ c. soundCell (cellAt (get s) k c))) cells-length
+        ∙ below-same (λ c. soundCell (cellAt (get s) k c)) (soundLane s home) (suc n) cell-same
+        ∙ lanes-same n home s (ok .boards) lanes
+
+    -- ---- the sum of a block
+
+    resting : laneSum s home + laneSum s (home + ownerOffset) * 65536 ≡ sumBelow (suc n) (λ c. plainAt s home c + ownerAt s home c * 65536)
+    unfolding laneSum
+    resting =
+        (λ i.
+        sum-short (plainAt s home) (suc n) 16 (omega (arith, ok .boards)) (λ j l u. lanes .no-plain j l u) i
+        + sum-short (ownerAt s home) (suc n) 16 (omega (arith, ok .boards)) (λ j l u. lanes .no-owner j l u) i * 65536)
+        ∙ sum-scaled (plainAt s home) (ownerAt s home) 65536 (suc n)
+
+    weight-same : tokensTotal t s home (sumInFlight s m k) ≡ (eqb (tokensOf (get s) k) t && eqb (ownersOf (get s) k) 1)
+    unfolding sumInFlight
+    weight-same =
+        let cs : List Cell = blockAt (get s) k .cells in
+        let ms : List Message = get s .mesh in
+        let g : Message → ℕ = λ x. cond (eqb (x .block) k) (carried x) 0 in
+        let o : Message → ℕ = λ x. cond (eqb (x .block) k) (owners (x .owner)) 0 in
+        let few : sum held cs ≤ suc n * 256 = list-most noCell cs (suc n) cells-length held (λ x. owners (x .owner)) cell-most in
+        let some : sum g ms ≤ m * 256 = list-most noMessage ms m (mesh-is s) g o (message-most k) in
+        halves (laneSum s home + laneSum s (home + ownerOffset) * 65536) (sumInFlight s m k) (sum held cs) (sum (λ x. owners (x .owner)) cs) (sum g ms) (sum o ms) t
+        (resting ∙ list-split noCell cs (suc n) cells-length held (λ x. owners (x .owner)) (λ c. plainAt s home c + ownerAt s home c * 65536) cell-weight)
+        (list-split noMessage ms m (mesh-is s) g o (λ i. carriedSumAt s k (32 + 40 * i)) (message-weight k))
+        (omega (arith, ok .boards, ok .messages)) (ok .bytes 2)
+
+    block-same : soundBlock (get s) k ≡ soundBlockAt n t s home (sumInFlight s m k)
+    unfolding soundBlockAt
+    block-same =
+        (λ i.
+        eqb (cells-length i) (suc (boards-is s i)) && eqb (tokensOf (get s) k) (tokens-is s i) && eqb (ownersOf (get s) k) 1
+        && cells-same i && soundClaims (boards-is s i) (claims-at s ok k hk i))
+        ∙ turned (eqb (suc n) (suc n)) (eqb (tokensOf (get s) k) t) (eqb (ownersOf (get s) k) 1) (soundLanes s home && unusedLanesEmpty n s home)
+        (soundClaims n (claimsBytes n (home + claimsOffset) s)) (claims n .wellFormed (slice (home + claimsOffset) 34 s)) (eq-eqb (suc n) (suc n) refl)
+        (and-r (tokenLanes n .wellFormed (slice home 48 s)) (claims n .wellFormed (slice (home + claimsOffset) 34 s)) block-form)
+        ∙ ap (λ (w : Bool). (w && (claims n .wellFormed (slice (home + claimsOffset) 34 s) && soundClaims n (claimsBytes n (home + claimsOffset) s))) && (soundLanes s home && unusedLanesEmpty n s home)) (sym weight-same)
+      where
+        turned : (e a o c x f : Bool) → e ≡ true → f ≡ true → (e && a && o && c && x) ≡ (((a && o) && (f && x)) && c)
+        turned e a o c x f h g =
+            (λ i. h i && a && o && c && x)
+            ∙ and-assoc (a && o) c x ∙ ap (λ (w : Bool). (a && o) && w) (and-comm c x) ∙ sym (and-assoc (a && o) x c)
+            ∙ (λ i. ((a && o) && (sym g i && x)) && c)
+
+  -- ---- the whole
+
+  decided : sound (get s) ≡ (sizes n b t && leb m 64 && allBelow m (λ i. soundMessageAt n b s (32 + 40 * i)) && allBelow b (λ k. soundBlockAt n t s (blockOffset k) (sumInFlight s m k)))
+  unfolding sound meshLimit
+  decided = λ i.
+      sizes (boards-is s i) (blocks-is s i) (tokens-is s i) && leb (mesh-is s i) 64 && messages-same i
+      && (ap (λ (z : ℕ). allBelow z (soundBlock (get s))) (blocks-is s)
+      ∙ below-same (soundBlock (get s)) (λ k. soundBlockAt n t s (blockOffset k) (sumInFlight s m k)) b block-same) i
+
+-- the lanes of each block of a well-formed record
+pub lanes-of : (s : List ℕ) (ok : Formed s) (k : ℕ) → k < getD s 1 0 → Lanes (getD s 0 0) (blockOffset k) s (ok .boards)
+lanes-of s ok k hk = lanes s ok k hk
+
+module _ (s : List ℕ) where
+  -- sizes in range and few messages
+  abbrev pub headerFine : Bool
+  headerFine = sizes (getD s 0 0) (getD s 1 0) (getD s 2 0) && leb (getD s 3 0) 64
+
+  abbrev pub meshFine : Bool
+  meshFine = allBelow (getD s 3 0) (λ i. soundMessageAt (getD s 0 0) (getD s 1 0) s (32 + 40 * i))
+
+  abbrev pub blocksFine : Bool
+  blocksFine = allBelow (getD s 1 0) (λ k. soundBlockAt (getD s 0 0) (getD s 2 0) s (blockOffset k) (sumInFlight s (getD s 3 0) k))
+
+  abbrev longEnough : Bool
+  longEnough = leb (recordLength (getD s 1 0)) (length s)
+
+  pub few-boards : headerFine ≡ true → getD s 0 0 ≤ 15
+  few-boards q = leb-true (getD s 0 0) 15 (search (and-l, and-r) depth 9)
+
+  pub few-blocks : headerFine ≡ true → getD s 1 0 ≤ 32
+  few-blocks q = leb-true (getD s 1 0) 32 (search (and-l, and-r) depth 9)
+
+  pub few-messages : headerFine ≡ true → getD s 3 0 ≤ 64
+  few-messages q = leb-true (getD s 3 0) 64 (search (and-l, and-r) depth 9)
+
+  -- the sizes of the rack that the bytes hold are those of the bytes
+  header-of : sound (get s) ≡ true → headerFine ≡ true
+  unfolding sound meshLimit
+  header-of q = (λ i. sizes (sym (boards-is s) i) (sym (blocks-is s) i) (sym (tokens-is s) i) && leb (sym (mesh-is s) i) 64) ∙ and-l _ _ (and-l _ _ q)
+
+  form-of : headerFine ≡ true → meshFine ≡ true → blocksFine ≡ true → layoutOf s .wellFormed s ≡ true
+  unfolding soundMessageAt soundBlockAt
+  form-of q a b =
+      let n : ℕ = getD s 0 0 in
+      record-formed s (few-messages q)
+      ∙ and-of (allBelow (getD s 3 0) (λ i. message .wellFormed (slice (messageOffset i) 40 s))) (allBelow (getD s 1 0) (λ k. block n .wellFormed (slice (blockOffset k) 632 s)))
+      (below-of (λ i. message .wellFormed (slice (messageOffset i) 40 s)) (getD s 3 0)
+      (λ i l. and-l (message .wellFormed (slice (messageOffset i) 40 s)) _ (below-at (λ j. soundMessageAt n (getD s 1 0) s (messageOffset j)) (getD s 3 0) a i l)))
+      (below-of (λ k. block n .wellFormed (slice (blockOffset k) 632 s)) (getD s 1 0)
+      (λ k l.
+      let home : ℕ = blockOffset k in
+      let T : Bool = tokensTotal (getD s 2 0) s home (sumInFlight s (getD s 3 0) k) in
+      let C : Bool = soundClaimsAt n s home in
+      let all : ((T && C) && (soundLanes s home && unusedLanesEmpty n s home)) ≡ true = below-at (λ j. soundBlockAt n (getD s 2 0) s (blockOffset j) (sumInFlight s (getD s 3 0) j)) (getD s 1 0) b k l in
+      let fine : (soundLanes s home && unusedLanesEmpty n s home) ≡ true = and-r (T && C) (soundLanes s home && unusedLanesEmpty n s home) all in
+      let sets : C ≡ true = and-r T C (and-l (T && C) (soundLanes s home && unusedLanesEmpty n s home) all) in
+      block-formed s n home (few-boards q)
+      ∙ and-of (tokenLanes n .wellFormed (slice home 48 s)) (claims n .wellFormed (slice (home + claimsOffset) 34 s))
+      (lanes-form n home s (few-boards q) (lanes-fine n home s (few-boards q) (and-l (soundLanes s home) (unusedLanesEmpty n s home) fine) (and-r (soundLanes s home) (unusedLanesEmpty n s home) fine)))
+      (and-l (claims n .wellFormed (slice (home + claimsOffset) 34 s)) (soundClaims n (claimsBytes n (home + claimsOffset) s)) sets)))
+
+  module _ (h : Bytes s) where
+    sound-is : soundBytes s ≡ (longEnough && (headerFine && meshFine && blocksFine))
+    unfolding soundBytes
+    sound-is =
+        same-test (soundBytes s) (longEnough && (headerFine && meshFine && blocksFine))
+        (λ q.
+        let e : headerFine ≡ true = header-of (and-r (wellFormedRecord s) (sound (get s)) q) in
+        let ok : Formed s = formed-of s h (few-boards e) (few-messages e) (and-l (wellFormedRecord s) (sound (get s)) q) in
+        and-of longEnough (headerFine && meshFine && blocksFine) (le-leb (recordLength (getD s 1 0)) (length s) (ok .room)) (sym (decided s ok) ∙ and-r (wellFormedRecord s) (sound (get s)) q))
+        (λ q.
+        let fine : (headerFine && meshFine && blocksFine) ≡ true = and-r longEnough (headerFine && meshFine && blocksFine) q in
+        let e : headerFine ≡ true = and-l headerFine meshFine (and-l (headerFine && meshFine) blocksFine fine) in
+        let ok : Formed s =
+        record {
+          bytes = h;
+          boards = few-boards e;
+          messages = few-messages e;
+          room = leb-true (recordLength (getD s 1 0)) (length s) (and-l longEnough (headerFine && meshFine && blocksFine) q);
+          wellFormed = form-of e (and-r headerFine meshFine (and-l (headerFine && meshFine) blocksFine fine)) (and-r (headerFine && meshFine) blocksFine fine);
+        } in
+        and-of (wellFormedRecord s) (sound (get s)) (well-formed s ok) (decided s ok ∙ fine))
+
+    -- ---- as the code asks
+
+    pub unsound-room : length s < recordLength (getD s 1 0) → soundBytes s ≡ false
+    unsound-room l = sound-is ∙ and-left longEnough (headerFine && meshFine && blocksFine) (lt-leb (recordLength (getD s 1 0)) (length s) l)
+
+    pub unsound-header : headerFine ≡ false → soundBytes s ≡ false
+    unsound-header e =
+        sound-is ∙ and-right longEnough (headerFine && meshFine && blocksFine)
+        (and-left (headerFine && meshFine) blocksFine (and-left headerFine meshFine e))
+
+    pub unsound-mesh : meshFine ≡ false → soundBytes s ≡ false
+    unsound-mesh e =
+        sound-is ∙ and-right longEnough (headerFine && meshFine && blocksFine)
+        (and-left (headerFine && meshFine) blocksFine (and-right headerFine meshFine e))
+
+    -- with the sums of the mesh
+    pub sound-blocks : headerFine ≡ true → recordLength (getD s 1 0) ≤ length s → meshFine ≡ true
+        → (sums : List ℕ) → ((k : ℕ) → k < 32 → getD sums k 0 ≡ sumInFlight s (getD s 3 0) k)
+        → allBelow (getD s 1 0) (λ k. soundBlockAt (getD s 0 0) (getD s 2 0) s (blockOffset k) (getD sums k 0)) ≡ soundBytes s
+    sound-blocks e l a sums f =
+        let few : getD s 1 0 ≤ 32 = few-blocks e in
+        below-same (λ k. soundBlockAt (getD s 0 0) (getD s 2 0) s (blockOffset k) (getD sums k 0)) (λ k. soundBlockAt (getD s 0 0) (getD s 2 0) s (blockOffset k) (sumInFlight s (getD s 3 0) k)) (getD s 1 0)
+        (λ k z. ap (soundBlockAt (getD s 0 0) (getD s 2 0) s (blockOffset k)) (f k (omega arith)))
+        ∙ sym (sound-is ∙ and-known longEnough (headerFine && meshFine && blocksFine) (le-leb (recordLength (getD s 1 0)) (length s) l)
+        ∙ and-known (headerFine && meshFine) blocksFine (and-of headerFine meshFine e a))

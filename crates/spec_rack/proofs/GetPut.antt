@@ -1,0 +1,530 @@
+-- The record's laws: what is written is read back, to write what is read changes nothing, a second write covers a first,
+-- and each figure of the rack has a place of its own. All follow from the laws of the parts.
+use Prim.Native.Nat.{ℕ, suc, _+_, _*_, _-_, _≤_, _<_, suc-le-suc}
+use native.Mathlib.Nat.{le-refl, zero-add, le-trans, le-of-eq, mul-le-mul-right}
+use native.Mathlib.Omega.{arith}
+use mathlib.Core.Path.{_≡_, refl, sym, ap, _∙_, subst}
+use mathlib.Core.Bool.{Bool, true, false}
+use mathlib.Core.List.{List, [], _∷_, _++_, map}
+use lib.Dec.{eqb, leb}
+use lib.ListN.{length, getD, set, take, drop, length-set, List·getD-map}
+use lib.Seq.{length-take-le, take-take, getD-take, getD-drop, set-comm, set-getD}
+use borrow.Author.Tests.{leb-true, le-leb}
+use Rattle.spec_base.specs.Folds.{toℕ, All, zip}
+use Rattle.spec_base.proofs.Tests.{and-l, and-r, and-of}
+use Rattle.spec_base.specs.Number.{Bytes}
+use Rattle.spec_base.specs.Layout.{Layout, slice, modifyAt, byte, flag, pair, items, room, lane, zipped}
+use Rattle.spec_base.proofs.Parts.{bytes-take, length-part, part-part, over-over}
+use Rattle.spec_base.proofs.Laws.{Stands, Lawful, byte-lawful, pair-lawful, pair-again, items-again, items-lawful, Items, length-readItems, cut-rest}
+use Rattle.spec_base.proofs.Places.{Place, within, first, second, item, write-byte}
+use Rattle.spec_base.proofs.Padded.{room-lawful, padded-place}
+use Rattle.spec_base.proofs.Lanes.{zip-length, zip-at, map-set, length-lane, Spread, place-iso, spread-place, spread-within, spread-as, spread-iso, spread-pair, over-both, spread-zipped, spread-byte, spread-flag, set-first, over-set, over-none, over-three}
+use Rattle.spec_rack.specs.Claims.{Claims}
+use Rattle.spec_rack.specs.RecordLayout.{claims}
+use Rattle.spec_rack.specs.declared.Message.{Message}
+use Rattle.spec_rack.specs.Rack.{Cell, Block, Rack, zeros, noCell, noBlock, blockAt}
+use Rattle.spec_rack.specs.Rules.{changed}
+use Rattle.spec_rack.specs.RecordLayout.{headerSize, blockSize, blockOffset, ownerOffset, validOffset, wordsOffset, wordsSize, Tokens, tokens, words, message, tokenLanes, toCell, cellTokens, toBlock, fromBlock, block, header, RackFields, rackLayout, recordLength, toRack, fromRack, layoutOf, get, put}
+use Rattle.spec_rack.specs.Soundness.{wellFormedRecord}
+use Rattle.spec_rack.proofs.LayoutParts.{WordsFit, ClaimsFit, MessageFits, BlockFits, HeaderFits, words-size, lanes-size, claims-size, message-size, block-size, header-size, words-lawful, message-lawful, lanes-lawful, claims-lawful, blockTokens, blockClaims, blockWords, block-tokens-lawful, block-claims-lawful, block-words-lawful, block-lawful, header-lawful, cells-tokens, cells-words}
+
+-- ---- N, B, T and the count of messages
+
+abbrev first-four : Layout (ℕ × (ℕ × (ℕ × ℕ)))
+first-four = pair byte (pair byte (pair byte byte))
+
+four-read : (s : List ℕ) → first-four .read (take 4 s) ≡ (getD s 0 0, (getD s 1 0, (getD s 2 0, getD s 3 0)))
+four-read [] = refl
+four-read (n ∷ []) = refl
+four-read (n ∷ b ∷ []) = refl
+four-read (n ∷ b ∷ t ∷ []) = refl
+four-read (n ∷ b ∷ t ∷ m ∷ s) = refl
+
+pub header-read : (s : List ℕ) → header .read (take (header .size) s) ≡ (getD s 0 0, (getD s 1 0, (getD s 2 0, getD s 3 0)))
+unfolding header
+header-read s = ap (first-four .read) (take-take 4 32 s (omega arith)) ∙ four-read s
+
+-- the count has a place of its own
+pub count-write : (s : List ℕ) (m : ℕ) → Bytes s → 32 ≤ length s
+    → header .write (getD s 0 0, (getD s 1 0, (getD s 2 0, m))) (take (header .size) s) ≡ set (take (header .size) s) 3 m
+unfolding header
+count-write s m h l =
+    let lt : length (take 32 s) ≡ 32 = length-take-le 32 s l in
+    let four-law = pair-lawful byte (pair byte (pair byte byte)) byte-lawful (pair-lawful byte (pair byte byte) byte-lawful (pair-lawful byte byte byte-lawful byte-lawful)) in
+    let three-law = pair-lawful byte (pair byte byte) byte-lawful (pair-lawful byte byte byte-lawful byte-lawful) in
+    let place =
+    within (padded-place room (λ k. refl) room-lawful 32 first-four four-law (omega arith))
+    (within (second byte (pair byte (pair byte byte)) byte-lawful three-law)
+    (within (second byte (pair byte byte) byte-lawful (pair-lawful byte byte byte-lawful byte-lawful)) (second byte byte byte-lawful byte-lawful))) in
+    ap (λ (v : ℕ × (ℕ × (ℕ × ℕ))). header .write (v .0, (v .1 .0, (v .1 .1 .0, m))) (take 32 s)) (sym (header-read s))
+    ∙ place .changes m (take 32 s) (record { bytes = bytes-take 32 s h; wellFormed = refl; room = le-of-eq (sym lt) })
+    ∙ sym (write-byte 3 m (take 32 s) (omega arith))
+
+-- ---- the whole
+
+abbrev pub FiguresFit : ℕ → ℕ → ℕ → RackFields → Type 0
+FiguresFit n b m v =
+    HeaderFits (v .0) × (Items MessageFits m (v .1 .0) × Items (BlockFits n) b (v .1 .1))
+
+module _ (n b m : ℕ) where
+  pub figures-size : rackLayout n b m .size ≡ recordLength b
+  unfolding rackLayout
+  figures-size =
+      (λ i. header-size i + (64 * message-size i + b * block-size n i)) ∙ omega arith
+
+  module _ (hn : n ≤ 15) (hm : m ≤ 64) where
+    mesh-law : Lawful (items message 64 m) (Items MessageFits m)
+    mesh-law = items-lawful message message-lawful 64 m hm
+
+    blocks-law : Lawful (items (block n) b b) (Items (BlockFits n) b)
+    blocks-law = items-lawful (block n) (block-lawful n hn) b b (le-refl b)
+
+    body-law : Lawful (pair (items message 64 m) (items (block n) b b)) (λ v. Items MessageFits m (v .0) × Items (BlockFits n) b (v .1))
+    body-law = pair-lawful _ _ mesh-law blocks-law
+
+    pub figures-lawful : Lawful (rackLayout n b m) (FiguresFit n b m)
+    unfolding rackLayout
+    figures-lawful = pair-lawful header (pair (items message 64 m) (items (block n) b b)) header-lawful body-law
+
+    pub mesh-place : Place (rackLayout n b m) (items message 64 m) headerSize (λ v. v .1 .0) (λ x v. (v .0, (x, v .1 .1)))
+    unfolding rackLayout
+    mesh-place =
+        subst (λ (p : ℕ). Place (rackLayout n b m) (items message 64 m) (p + 0) (λ v. v .1 .0) (λ x v. (v .0, (x, v .1 .1)))) header-size
+        (within (second header (pair (items message 64 m) (items (block n) b b)) header-lawful body-law) (first _ _ mesh-law blocks-law))
+
+    blocks-place : Place (rackLayout n b m) (items (block n) b b) (header .size + 64 * message .size) (λ v. v .1 .1) (λ x v. (v .0, (v .1 .0, x)))
+    unfolding rackLayout
+    blocks-place = within (second header (pair (items message 64 m) (items (block n) b b)) header-lawful body-law) (second _ _ mesh-law blocks-law)
+
+    pub block-place : (i : ℕ) → i < b
+        → Place (rackLayout n b m) (block n) (blockOffset i) (λ v. getD (v .1 .1) i noBlock) (λ k v. (v .0, (v .1 .0, set (v .1 .1) i k)))
+    block-place i h =
+        subst (λ (p : ℕ). Place (rackLayout n b m) (block n) p (λ v. getD (v .1 .1) i noBlock) (λ k v. (v .0, (v .1 .0, set (v .1 .1) i k))))
+        ((λ j. header-size j + 64 * message-size j + i * block-size n j) ∙ omega arith)
+        (within blocks-place (item (block n) (block-lawful n hn) noBlock b b i (le-refl b) h))
+
+-- ---- the places in a block: its claims, the tokens of a component, its words
+
+pub lanes-length : (n : ℕ) (s : List ℕ) → length (tokenLanes n .read s) ≡ suc n
+unfolding tokenLanes
+lanes-length n s =
+    zip-length (lane byte (suc n) .read (take 16 s)) (zipped (lane flag (suc n)) (lane flag (suc n)) .read (slice 16 32 s))
+    (length-lane byte (suc n) (take 16 s) ∙ sym (flags-length n (slice 16 32 s)))
+    ∙ length-lane byte (suc n) (take 16 s)
+  where
+    flags-length : (k : ℕ) (t : List ℕ) → length (zipped (lane flag (suc k)) (lane flag (suc k)) .read t) ≡ suc k
+    flags-length k t =
+        zip-length (lane flag (suc k) .read (take 16 t)) (lane flag (suc k) .read (slice 16 16 t))
+        (length-lane flag (suc k) (take 16 t) ∙ sym (length-lane flag (suc k) (slice 16 16 t)))
+        ∙ length-lane flag (suc k) (take 16 t)
+
+-- marks and counts in lanes: the three bytes of component c
+pub lanes-spread : (n : ℕ) → n ≤ 15 → (c : ℕ) → c ≤ n
+    → Spread {B = Tokens} (tokenLanes n) (λ l. getD l c (0, (false, false))) (λ v l. set l c v)
+    (λ s. (getD s c 0, (eqb (getD s (ownerOffset + c) 0) 1, eqb (getD s (validOffset + c) 0) 1)))
+    (λ v s. set (set (set s c (v .0)) (ownerOffset + c) (toℕ (v .1 .0))) (validOffset + c) (toℕ (v .1 .1)))
+unfolding tokenLanes
+lanes-spread n h c hc =
+    spread-as (spread-zipped (λ s t. length-lane byte (suc n) s ∙ sym (flags-length t)) c 0 (false, false) (spread-byte (suc n) (suc-le-suc h) c (suc-le-suc hc)) flags)
+    (λ s. (getD s c 0, (eqb (getD s (16 + c) 0) 1, eqb (getD s (32 + c) 0) 1)))
+    (λ v s. set (set (set s c (v .0)) (16 + c) (toℕ (v .1 .0))) (32 + c) (toℕ (v .1 .1)))
+    (λ s. λ i. (
+      getD-take 16 s c 0 (omega arith) i,
+      (
+        eqb ((getD-take 32 (drop 16 s) c 0 (omega arith) ∙ getD-drop 16 s c 0) i) 1,
+        eqb ((getD-take 32 (drop 16 s) (16 + c) 0 (omega arith) ∙ getD-drop 16 s (16 + c) 0 ∙ ap (λ (k : ℕ). getD s k 0) (let e : 16 + (16 + c) ≡ 32 + c = omega arith in e)) i) 1,
+      ),
+    ))
+    (λ v s l.
+    set-first 16 32 s (λ t. set (set t (16 + c) (toℕ (v .1 .1))) c (toℕ (v .1 .0))) c (v .0) (omega arith) (omega arith)
+    ∙ ap (λ (t : List ℕ). set t c (v .0))
+    (over-set 16 32 s l (λ t. set t (16 + c) (toℕ (v .1 .1))) c (toℕ (v .1 .0)) (length-set (slice 16 32 s) (16 + c) (toℕ (v .1 .1))) (omega arith)
+    ∙ ap (λ (t : List ℕ). set t (16 + c) (toℕ (v .1 .0)))
+    (over-set 16 32 s l (λ t. t) (16 + c) (toℕ (v .1 .1)) refl (omega arith)
+    ∙ (λ i. set (over-none 16 32 s l i) (let e : 16 + (16 + c) ≡ 32 + c = omega arith in e i) (toℕ (v .1 .1)))))
+    ∙ ap (λ (t : List ℕ). set t c (v .0)) (set-comm s (32 + c) (16 + c) (toℕ (v .1 .1)) (toℕ (v .1 .0)) (λ e. omega arith))
+    ∙ set-comm (set s (16 + c) (toℕ (v .1 .0))) (32 + c) c (toℕ (v .1 .1)) (v .0) (λ e. omega arith)
+    ∙ ap (λ (t : List ℕ). set t (32 + c) (toℕ (v .1 .1))) (set-comm s (16 + c) c (toℕ (v .1 .0)) (v .0) (λ e. omega arith)))
+  where
+    flags-length : (t : List ℕ) → length (zipped (lane flag (suc n)) (lane flag (suc n)) .read t) ≡ suc n
+    flags-length t =
+        zip-length (lane flag (suc n) .read (take 16 t)) (lane flag (suc n) .read (slice 16 16 t))
+        (length-lane flag (suc n) (take 16 t) ∙ sym (length-lane flag (suc n) (slice 16 16 t)))
+        ∙ length-lane flag (suc n) (take 16 t)
+
+    flags : Spread {B = Bool × Bool} (zipped (lane flag (suc n)) (lane flag (suc n))) (λ l. getD l c (false, false)) (λ v l. set l c v)
+        (λ s. (eqb (getD s c 0) 1, eqb (getD s (16 + c) 0) 1)) (λ v s. set (set s (16 + c) (toℕ (v .1))) c (toℕ (v .0)))
+    flags =
+        spread-as
+        (spread-zipped (λ s t. length-lane flag (suc n) s ∙ sym (length-lane flag (suc n) t)) c false false (spread-flag (suc n) (suc-le-suc h) c (suc-le-suc hc)) (spread-flag (suc n) (suc-le-suc h) c (suc-le-suc hc)))
+        (λ s. (eqb (getD s c 0) 1, eqb (getD s (16 + c) 0) 1)) (λ v s. set (set s (16 + c) (toℕ (v .1))) c (toℕ (v .0)))
+        (λ s. λ i. (eqb (getD-take 16 s c 0 (omega arith) i) 1, eqb ((getD-take 16 (drop 16 s) c 0 (omega arith) ∙ getD-drop 16 s c 0) i) 1))
+        (λ v s l.
+        set-first 16 16 s (λ t. set t c (toℕ (v .1))) c (toℕ (v .0)) (omega arith) (omega arith)
+        ∙ ap (λ (t : List ℕ). set t c (toℕ (v .0))) (over-set 16 16 s l (λ t. t) c (toℕ (v .1)) refl (omega arith) ∙ ap (λ (t : List ℕ). set t (16 + c) (toℕ (v .1))) (over-none 16 16 s l)))
+
+-- three bytes set in the first k
+front-three : (k : ℕ) (s : List ℕ) → k ≤ length s → (a b c x y z : ℕ) → a < k → b < k → c < k
+    → modifyAt 0 k (λ t. set (set (set t a x) b y) c z) s ≡ set (set (set s a x) b y) c z
+front-three k s l a b c x y z ha hb hc =
+    over-three 0 k s (omega arith) a b c x y z ha hb hc ∙ (λ i. set (set (set s (zero-add a i) x) (zero-add b i) y) (zero-add c i) z)
+
+-- a block with another cell of component c, with other tokens of it, with other words of it
+abbrev pub withCellOf : ℕ → Cell → Block → Block
+withCellOf c x k = record { cells = set (k .cells) c x; claims = k .claims }
+
+abbrev pub withTokens : ℕ → Tokens → Block → Block
+withTokens c v k = withCellOf c (toCell (v, getD (k .cells) c noCell .words)) k
+
+abbrev pub withWords : ℕ → List ℕ → Block → Block
+withWords c ws k = withCellOf c (toCell (cellTokens (getD (k .cells) c noCell), ws)) k
+
+module _ (n : ℕ) (h : n ≤ 15) where
+  abbrev raw : Layout (List Tokens × (Claims × List (List ℕ)))
+  raw = pair (blockTokens n) (pair (blockClaims n) (blockWords n))
+
+  rest-lawful : Lawful (pair (blockClaims n) (blockWords n)) (λ v. ClaimsFit n (v .0) × Items WordsFit (suc n) (v .1))
+  rest-lawful = pair-lawful (blockClaims n) (blockWords n) (block-claims-lawful n h) (block-words-lawful n h)
+
+  -- as many tokens as words
+  as-many : (s : List ℕ) → length (raw .read s .0) ≡ length (raw .read s .1 .1)
+  as-many s = lanes-length n (take (tokenLanes n .size) (take 80 s)) ∙ sym (length-readItems words (suc n) (slice 40 (16 * words .size) (slice 80 (40 + 16 * words .size) s)))
+
+  -- ---- the claims
+
+  pub claims-place : Place (block n) (claims n) 80 (λ k. k .claims) (λ x k. record { cells = k .cells; claims = x })
+  unfolding block
+  claims-place =
+      place-iso
+      (within (second (blockTokens n) (pair (blockClaims n) (blockWords n)) (block-tokens-lawful n h) rest-lawful)
+      (within (first (blockClaims n) (blockWords n) (block-claims-lawful n h) (block-words-lawful n h))
+      (padded-place room (λ k. refl) room-lawful 40 (claims n) (claims-lawful n h) (rw (claims-size n) (omega arith)))))
+      toBlock fromBlock (λ k. k .claims) (λ x k. record { cells = k .cells; claims = x })
+      (λ s. refl)
+      (λ v s. λ i. (cells-tokens (raw .read s .0) (raw .read s .1 .1) (as-many s) i, (v, cells-words (raw .read s .0) (raw .read s .1 .1) (as-many s) i)))
+
+  -- ---- what component c has
+
+  module _ (c : ℕ) (hc : c ≤ n) where
+    -- the cell that is read of tokens and words
+    cell-of : (s : List ℕ) → getD (toBlock (raw .read s) .cells) c noCell ≡ toCell (getD (raw .read s .0) c (0, (false, false)), getD (raw .read s .1 .1) c zeros)
+    cell-of s =
+        List·getD-map toCell (zip (raw .read s .0) (raw .read s .1 .1)) c ((0, (false, false)), zeros)
+        ∙ ap toCell (zip-at (raw .read s .0) (raw .read s .1 .1) c (0, (false, false)) zeros (as-many s))
+
+    -- what is left of the others
+    set-tokens : (s : List ℕ) (x : Cell) → map cellTokens (set (toBlock (raw .read s) .cells) c x) ≡ set (raw .read s .0) c (cellTokens x)
+    set-tokens s x = map-set cellTokens (toBlock (raw .read s) .cells) c x ∙ ap (λ (l : List Tokens). set l c (cellTokens x)) (cells-tokens (raw .read s .0) (raw .read s .1 .1) (as-many s))
+
+    set-words : (s : List ℕ) (x : Cell) → map (λ y. y .words) (set (toBlock (raw .read s) .cells) c x) ≡ set (raw .read s .1 .1) c (x .words)
+    set-words s x =
+        map-set (λ y. y .words) (toBlock (raw .read s) .cells) c x ∙ ap (λ (l : List (List ℕ)). set l c (x .words)) (cells-words (raw .read s .0) (raw .read s .1 .1) (as-many s))
+
+    lanes-here : Place (blockTokens n) (tokenLanes n) 0 (λ a. a) (λ v a. v)
+    lanes-here = padded-place room (λ k. refl) room-lawful 80 (tokenLanes n) (lanes-lawful n h) (rw (lanes-size n) (omega arith))
+
+    words-here : Place (pair (blockClaims n) (blockWords n)) words (40 + c * words .size) (λ v. getD (v .1) c zeros) (λ ws v. (v .0, set (v .1) c ws))
+    words-here =
+        within (second (blockClaims n) (blockWords n) (block-claims-lawful n h) (block-words-lawful n h))
+        (item words words-lawful zeros 16 (suc n) c (suc-le-suc h) (suc-le-suc hc))
+
+    tokens-here : Spread {B = Tokens} (blockTokens n) (λ l. getD l c (0, (false, false))) (λ v l. set l c v)
+        (λ s. (getD s c 0, (eqb (getD s (ownerOffset + c) 0) 1, eqb (getD s (validOffset + c) 0) 1)))
+        (λ v s. set (set (set s c (v .0)) (ownerOffset + c) (toℕ (v .1 .0))) (validOffset + c) (toℕ (v .1 .1)))
+    tokens-here =
+        let k : ℕ = tokenLanes n .size in
+        spread-as (spread-within lanes-here (lanes-spread n h c hc))
+        (λ s. (getD s c 0, (eqb (getD s (16 + c) 0) 1, eqb (getD s (32 + c) 0) 1)))
+        (λ v s. set (set (set s c (v .0)) (16 + c) (toℕ (v .1 .0))) (32 + c) (toℕ (v .1 .1)))
+        (λ s. λ i. (
+          getD-take k s c 0 (omega (arith, lanes-size n)) i,
+          (eqb (getD-take k s (16 + c) 0 (omega (arith, lanes-size n)) i) 1, eqb (getD-take k s (32 + c) 0 (omega (arith, lanes-size n)) i) 1),
+        ))
+        (λ v s l.
+        front-three k s (omega (arith, lanes-size n, l)) c (16 + c) (32 + c) (v .0) (toℕ (v .1 .0)) (toℕ (v .1 .1)) (omega (arith, lanes-size n)) (omega (arith, lanes-size n)) (omega (arith, lanes-size n)))
+
+    -- its tokens: three bytes, one in each lane
+    pub tokens-spread : Spread (block n) (λ k. cellTokens (getD (k .cells) c noCell)) (withTokens c)
+        (λ s. (getD s c 0, (eqb (getD s (ownerOffset + c) 0) 1, eqb (getD s (validOffset + c) 0) 1)))
+        (λ v s. set (set (set s c (v .0)) (ownerOffset + c) (toℕ (v .1 .0))) (validOffset + c) (toℕ (v .1 .1)))
+    unfolding block
+    tokens-spread =
+        spread-iso
+        (spread-as (spread-within (first (blockTokens n) (pair (blockClaims n) (blockWords n)) (block-tokens-lawful n h) rest-lawful) tokens-here)
+        (λ s. (getD s c 0, (eqb (getD s (16 + c) 0) 1, eqb (getD s (32 + c) 0) 1)))
+        (λ v s. set (set (set s c (v .0)) (16 + c) (toℕ (v .1 .0))) (32 + c) (toℕ (v .1 .1)))
+        (λ s. λ i. (getD-take 80 s c 0 (omega arith) i, (eqb (getD-take 80 s (16 + c) 0 (omega arith) i) 1, eqb (getD-take 80 s (32 + c) 0 (omega arith) i) 1)))
+        (λ v s l. front-three 80 s (omega arith) c (16 + c) (32 + c) (v .0) (toℕ (v .1 .0)) (toℕ (v .1 .1)) (omega arith) (omega arith) (omega arith)))
+        toBlock fromBlock (λ k. cellTokens (getD (k .cells) c noCell)) (withTokens c)
+        (λ s. ap cellTokens (cell-of s))
+        (λ v s. λ i. (
+          set-tokens s (toCell (v, getD (toBlock (raw .read s) .cells) c noCell .words)) i,
+          (
+            raw .read s .1 .0,
+            (set-words s (toCell (v, getD (toBlock (raw .read s) .cells) c noCell .words))
+                ∙ ap (λ (x : Cell). set (raw .read s .1 .1) c (x .words)) (cell-of s) ∙ set-getD (raw .read s .1 .1) c zeros) i,
+          ),
+        ))
+
+    -- its words: 32 bytes
+    pub words-place : Place (block n) words (wordsOffset + wordsSize * c) (λ k. getD (k .cells) c noCell .words) (withWords c)
+    unfolding block
+    words-place =
+        subst (λ (p : ℕ). Place (block n) words p (λ k. getD (k .cells) c noCell .words) (withWords c))
+        (ap (λ (k : ℕ). 80 + (40 + c * k)) words-size ∙ omega arith)
+        (place-iso
+        (within (second (blockTokens n) (pair (blockClaims n) (blockWords n)) (block-tokens-lawful n h) rest-lawful) words-here)
+        toBlock fromBlock (λ k. getD (k .cells) c noCell .words) (withWords c)
+        (λ s. ap (λ (x : Cell). x .words) (cell-of s))
+        (λ v s. λ i. (
+          (set-tokens s (toCell (cellTokens (getD (toBlock (raw .read s) .cells) c noCell), v))
+              ∙ ap (λ (x : Cell). set (raw .read s .0) c (cellTokens x)) (cell-of s) ∙ set-getD (raw .read s .0) c (0, (false, false))) i,
+          (raw .read s .1 .0, set-words s (toCell (cellTokens (getD (toBlock (raw .read s) .cells) c noCell), v)) i),
+        )))
+
+    -- both: the cell
+    pub cell-spread : Spread {B = Tokens × List ℕ} (block n) (λ k. (cellTokens (getD (k .cells) c noCell), getD (k .cells) c noCell .words)) (λ v. withCellOf c (toCell v))
+        (λ s. ((getD s c 0, (eqb (getD s (ownerOffset + c) 0) 1, eqb (getD s (validOffset + c) 0) 1)), words .read (slice (wordsOffset + wordsSize * c) 32 s)))
+        (λ v s. modifyAt (wordsOffset + wordsSize * c) 32 (words .write (v .1)) (set (set (set s c (v .0 .0)) (ownerOffset + c) (toℕ (v .0 .1 .0))) (validOffset + c) (toℕ (v .0 .1 .1))))
+    unfolding block
+    cell-spread =
+        spread-iso
+        (spread-as (spread-pair tokens-here (spread-place words-here))
+        (λ s. ((getD s c 0, (eqb (getD s (16 + c) 0) 1, eqb (getD s (32 + c) 0) 1)), words .read (slice (120 + 32 * c) 32 s)))
+        (λ v s. modifyAt (120 + 32 * c) 32 (words .write (v .1)) (set (set (set s c (v .0 .0)) (16 + c) (toℕ (v .0 .1 .0))) (32 + c) (toℕ (v .0 .1 .1))))
+        (λ s. λ i. (
+          (getD-take 80 s c 0 (omega arith) i, (eqb (getD-take 80 s (16 + c) 0 (omega arith) i) 1, eqb (getD-take 80 s (32 + c) 0 (omega arith) i) 1)),
+          (ap (words .read) (part-part 80 m (40 + c * z) z s (words-here .inside)) ∙ (λ j. words .read (slice (80 + (40 + c * words-size j)) (words-size j) s))
+              ∙ ap (λ (k : ℕ). words .read (slice k 32 s)) far) i,
+        ))
+        (λ v s l.
+        over-both (three v) (modifyAt (40 + c * z) z (words .write (v .1))) 80 m s (same-three v (take 80 s)) l
+        ∙ over-over (words .write (v .1)) 80 m (40 + c * z) z (three v (take 80 s) ++ drop 80 s) (words-here .inside)
+        ∙ (λ j. modifyAt (80 + (40 + c * words-size j)) (words-size j) (words .write (v .1))
+        (front-three 80 s (omega arith) c (16 + c) (32 + c) (v .0 .0) (toℕ (v .0 .1 .0)) (toℕ (v .0 .1 .1)) (omega arith) (omega arith) (omega arith) j))
+        ∙ ap (λ (k : ℕ). modifyAt k 32 (words .write (v .1)) (three v s)) far))
+        toBlock fromBlock (λ k. (cellTokens (getD (k .cells) c noCell), getD (k .cells) c noCell .words)) (λ v. withCellOf c (toCell v))
+        (λ s. λ i. (cellTokens (cell-of s i), cell-of s i .words))
+        (λ v s. λ i. (set-tokens s (toCell v) i, (raw .read s .1 .0, set-words s (toCell v) i)))
+      where
+        z : ℕ
+        z = words .size
+
+        m : ℕ
+        m = 40 + 16 * z
+
+        far : 80 + (40 + c * 32) ≡ 120 + 32 * c
+        far = omega arith
+
+        three : Tokens × List ℕ → List ℕ → List ℕ
+        three v t = set (set (set t c (v .0 .0)) (16 + c) (toℕ (v .0 .1 .0))) (32 + c) (toℕ (v .0 .1 .1))
+
+        same-three : (v : Tokens × List ℕ) (t : List ℕ) → length (three v t) ≡ length t
+        same-three v t = simp length-set
+
+-- ---- a well-formed record
+
+-- bytes that are as the layout has them, of sizes that the layout has room for
+pub record Formed (s : List ℕ) : Type 0 where
+  pub bytes : Bytes s
+  pub boards : getD s 0 0 ≤ 15
+  pub messages : getD s 3 0 ≤ 64
+  pub room : recordLength (getD s 1 0) ≤ length s
+  pub wellFormed : layoutOf s .wellFormed s ≡ true
+
+pub well-formed : (s : List ℕ) → Formed s → wellFormedRecord s ≡ true
+unfolding wellFormedRecord
+well-formed s f = and-of (leb (recordLength (getD s 1 0)) (length s)) (layoutOf s .wellFormed s) (le-leb (recordLength (getD s 1 0)) (length s) (f .room)) (f .wellFormed)
+
+pub formed-of : (s : List ℕ) → Bytes s → getD s 0 0 ≤ 15 → getD s 3 0 ≤ 64 → wellFormedRecord s ≡ true → Formed s
+unfolding wellFormedRecord
+formed-of s h n m w =
+    record {
+      bytes = h;
+      boards = n;
+      messages = m;
+      room = leb-true (recordLength (getD s 1 0)) (length s) (and-l (leb (recordLength (getD s 1 0)) (length s)) (layoutOf s .wellFormed s) w);
+      wellFormed = and-r (leb (recordLength (getD s 1 0)) (length s)) (layoutOf s .wellFormed s) w;
+    }
+
+-- the rack that a record holds has the record's sizes, well-formed or not
+module _ (s : List ℕ) where
+  pub boards-is : get s .boards ≡ getD s 0 0
+  unfolding get rackLayout
+  boards-is = ap (λ (v : ℕ × (ℕ × (ℕ × ℕ))). v .0) (header-read s)
+
+  pub tokens-is : get s .tokens ≡ getD s 2 0
+  unfolding get rackLayout
+  tokens-is = ap (λ (v : ℕ × (ℕ × (ℕ × ℕ))). v .1 .1 .0) (header-read s)
+
+  pub blocks-is : length (get s .blocks) ≡ getD s 1 0
+  unfolding get rackLayout
+  blocks-is = length-readItems (block (getD s 0 0)) (getD s 1 0) _
+
+  pub mesh-is : length (get s .mesh) ≡ getD s 3 0
+  unfolding get rackLayout
+  mesh-is = length-readItems message (getD s 3 0) _
+
+  read-is : fromRack (get s) ≡ layoutOf s .read s
+  unfolding get rackLayout
+  read-is = λ i. (
+    (
+      layoutOf s .read s .0 .0,
+      (
+        (blocks-is ∙ sym (ap (λ (v : ℕ × (ℕ × (ℕ × ℕ))). v .1 .0) (header-read s))) i,
+        (layoutOf s .read s .0 .1 .1 .0, (mesh-is ∙ sym (ap (λ (v : ℕ × (ℕ × (ℕ × ℕ))). v .1 .1 .1) (header-read s))) i),
+      ),
+    ),
+    layoutOf s .read s .1,
+  )
+
+  -- a rack of the record's sizes is written by the record's layout
+  put-is : (r : Rack) → r .boards ≡ getD s 0 0 → length (r .blocks) ≡ getD s 1 0 → length (r .mesh) ≡ getD s 3 0 → put r s ≡ layoutOf s .write (fromRack r) s
+  unfolding put
+  put-is r a b c = λ i. rackLayout (a i) (b i) (c i) .write (fromRack r) s
+
+  module _ (ok : Formed s) where
+    pub law : Lawful (layoutOf s) (FiguresFit (getD s 0 0) (getD s 1 0) (getD s 3 0))
+    law = figures-lawful (getD s 0 0) (getD s 1 0) (getD s 3 0) (ok .boards) (ok .messages)
+
+    pub stands : Stands (layoutOf s) s
+    stands = record { bytes = ok .bytes; wellFormed = ok .wellFormed; room = rw (figures-size (getD s 0 0) (getD s 1 0) (getD s 3 0)) (ok .room) }
+
+    -- to write the rack that is there changes nothing
+    pub put-get : put (get s) s ≡ s
+    put-get = put-is (get s) boards-is blocks-is mesh-is ∙ ap (λ (v : RackFields). layoutOf s .write v s) read-is ∙ law .unchanged s stands
+
+    changed-is : {A : Type 0} (change : A → Block → Block) (b : ℕ) (x : A) → fromRack (changed (get s) b (change x (blockAt (get s) b)) (get s .mesh))
+        ≡ (layoutOf s .read s .0, (layoutOf s .read s .1 .0, set (layoutOf s .read s .1 .1) b (change x (getD (layoutOf s .read s .1 .1) b noBlock))))
+    changed-is change b x =
+        (λ i. ((get s .boards, (length-set (get s .blocks) b (change x (blockAt (get s) b)) i, (get s .tokens, length (get s .mesh)))), (get s .mesh, set (get s .blocks) b (change x (blockAt (get s) b)))))
+        ∙ ap (λ (v : RackFields). (v .0, (v .1 .0, set (v .1 .1) b (change x (getD (v .1 .1) b noBlock))))) read-is
+
+    -- a figure of a block: where it is read, and what it is to change it
+    module _ {A : Type 0} {M : Layout A} {p : ℕ} {look : Block → A} {change : A → Block → Block} (P : Place (block (getD s 0 0)) M p look change) (b : ℕ) (hb : b < getD s 1 0) where
+      figure : Place (layoutOf s) M (blockOffset b + p) (λ v. look (getD (v .1 .1) b noBlock)) (λ x v. (v .0, (v .1 .0, set (v .1 .1) b (change x (getD (v .1 .1) b noBlock)))))
+      figure = within (block-place (getD s 0 0) (getD s 1 0) (getD s 3 0) (ok .boards) (ok .messages) b hb) P
+
+      pub read-figure : look (blockAt (get s) b) ≡ M .read (slice (blockOffset b + p) (M .size) s)
+      unfolding get
+      read-figure = figure .looks s
+
+      pub stands-figure : Stands M (slice (blockOffset b + p) (M .size) s)
+      stands-figure = figure .stands s stands
+
+      pub write-figure : (x : A) → put (changed (get s) b (change x (blockAt (get s) b)) (get s .mesh)) s ≡ modifyAt (blockOffset b + p) (M .size) (M .write x) s
+      write-figure x =
+          put-is (changed (get s) b (change x (blockAt (get s) b)) (get s .mesh)) boards-is (length-set (get s .blocks) b (change x (blockAt (get s) b)) ∙ blocks-is) mesh-is
+          ∙ ap (λ (v : RackFields). layoutOf s .write v s) (changed-is change b x)
+          ∙ figure .changes x s stands
+
+    -- the same of a figure that stands in several places
+    module _ {A : Type 0} {look : Block → A} {change : A → Block → Block} {reads : List ℕ → A} {writes : A → List ℕ → List ℕ} (S : Spread (block (getD s 0 0)) look change reads writes) (b : ℕ) (hb : b < getD s 1 0) where
+      spread : Spread (layoutOf s) (λ v. look (getD (v .1 .1) b noBlock)) (λ x v. (v .0, (v .1 .0, set (v .1 .1) b (change x (getD (v .1 .1) b noBlock)))))
+          (λ t. reads (slice (blockOffset b) (block (getD s 0 0) .size) t)) (λ x t. modifyAt (blockOffset b) (block (getD s 0 0) .size) (writes x) t)
+      spread = spread-within (block-place (getD s 0 0) (getD s 1 0) (getD s 3 0) (ok .boards) (ok .messages) b hb) S
+
+      pub read-spread : look (blockAt (get s) b) ≡ reads (slice (blockOffset b) blockSize s)
+      unfolding get
+      read-spread = spread .looks s ∙ ap (λ (k : ℕ). reads (slice (blockOffset b) k s)) (block-size (getD s 0 0))
+
+      pub write-spread : (x : A) → put (changed (get s) b (change x (blockAt (get s) b)) (get s .mesh)) s ≡ modifyAt (blockOffset b) blockSize (writes x) s
+      write-spread x =
+          put-is (changed (get s) b (change x (blockAt (get s) b)) (get s .mesh)) boards-is (length-set (get s .blocks) b (change x (blockAt (get s) b)) ∙ blocks-is) mesh-is
+          ∙ ap (λ (v : RackFields). layoutOf s .write v s) (changed-is change b x)
+          ∙ spread .changes x s stands
+          ∙ ap (λ (k : ℕ). modifyAt (blockOffset b) k (writes x) s) (block-size (getD s 0 0))
+
+-- ---- a rack that a record can hold
+
+pub record Fits (r : Rack) : Type 0 where
+  pub boards : r .boards ≤ 15
+  pub blocks : length (r .blocks) ≤ 32
+  pub tokens : r .tokens ≤ 64
+  pub messages : length (r .mesh) ≤ 64
+  pub blocks-fit : All (BlockFits (r .boards)) (r .blocks)
+  pub mesh-fits : All MessageFits (r .mesh)
+
+fitting : (r : Rack) → Fits r → FiguresFit (r .boards) (length (r .blocks)) (length (r .mesh)) (fromRack r)
+fitting r fits = (omega (arith, fits), ((refl, fits .mesh-fits), (refl, fits .blocks-fit)))
+
+module _ (r : Rack) (fits : Fits r) where
+  rack-law : Lawful (rackLayout (r .boards) (length (r .blocks)) (length (r .mesh))) (FiguresFit (r .boards) (length (r .blocks)) (length (r .mesh)))
+  rack-law = figures-lawful (r .boards) (length (r .blocks)) (length (r .mesh)) (fits .boards) (fits .messages)
+
+  module _ (s : List ℕ) (room : recordLength (length (r .blocks)) ≤ length s) where
+    room′ : rackLayout (r .boards) (length (r .blocks)) (length (r .mesh)) .size ≤ length s
+    room′ = rw (figures-size (r .boards) (length (r .blocks)) (length (r .mesh))) room
+
+    pub put-keeps : length (put r s) ≡ length s
+    unfolding put
+    put-keeps = rack-law .keeps (fromRack r) s
+
+    put-reads : rackLayout (r .boards) (length (r .blocks)) (length (r .mesh)) .read (put r s) ≡ fromRack r
+    unfolding put
+    put-reads = rack-law .back (fromRack r) s (fitting r fits) room′
+
+    put-sizes : _≡_ {A = ℕ × (ℕ × (ℕ × ℕ))} (getD (put r s) 0 0, (getD (put r s) 1 0, (getD (put r s) 2 0, getD (put r s) 3 0))) (r .boards, (length (r .blocks), (r .tokens, length (r .mesh))))
+    unfolding rackLayout
+    put-sizes = sym (header-read (put r s)) ∙ ap (λ (v : RackFields). v .0) put-reads
+
+    -- what is written is read back
+    pub get-put : get (put r s) ≡ r
+    unfolding get
+    get-put =
+        (λ i. toRack (rackLayout (put-sizes i .0) (put-sizes i .1 .0) (put-sizes i .1 .1 .1) .read (put r s)))
+        ∙ ap toRack put-reads
+
+    -- and well wellFormed
+    pub put-formed : Bytes s → Formed (put r s)
+    unfolding put
+    put-formed b =
+        let n : getD (put r s) 0 0 ≡ r .boards = ap (λ (v : ℕ × (ℕ × (ℕ × ℕ))). v .0) put-sizes in
+        let k : getD (put r s) 1 0 ≡ length (r .blocks) = ap (λ (v : ℕ × (ℕ × (ℕ × ℕ))). v .1 .0) put-sizes in
+        let m : getD (put r s) 3 0 ≡ length (r .mesh) = ap (λ (v : ℕ × (ℕ × (ℕ × ℕ))). v .1 .1 .1) put-sizes in
+        let l : length (put r s) ≡ length s = put-keeps in
+        record {
+          bytes = rack-law .bytes (fromRack r) s (fitting r fits) b;
+          boards = omega (arith, fits .boards);
+          messages = omega (arith, fits .messages);
+          room = omega (arith, room);
+          wellFormed =
+              subst (λ (v : ℕ × (ℕ × (ℕ × ℕ))). rackLayout (v .0) (v .1 .0) (v .1 .1 .1) .wellFormed (put r s) ≡ true) (sym put-sizes)
+              (rack-law .forms (fromRack r) s (fitting r fits) room′);
+        }
+
+    -- what stands behind the record stays
+    pub put-behind : drop (recordLength (length (r .blocks))) (put r s) ≡ drop (recordLength (length (r .blocks))) s
+    unfolding put rackLayout
+    put-behind =
+        let k : ℕ = length (r .blocks) in
+        let rest : Layout (List Message × List Block) = pair (items message 64 (length (r .mesh))) (items (block (r .boards)) k k) in
+        let e : recordLength k ≡ header .size + rest .size = sym (figures-size (r .boards) k (length (r .mesh))) in
+        ap (λ (j : ℕ). drop j (put r s)) e
+        ∙ cut-rest (header .size) (rest .size) (header .write (fromRack r .0) (take (header .size) s)) (rest .write (fromRack r .1) (slice (header .size) (rest .size) s)) s
+        (header-lawful .keeps (fromRack r .0) (take (header .size) s))
+        (body-law (r .boards) k (length (r .mesh)) (fits .boards) (fits .messages) .keeps (fromRack r .1) (slice (header .size) (rest .size) s)) room′
+        ∙ ap (λ (j : ℕ). drop j s) (sym e)
+
+    -- a second rack of these sizes, with no fewer messages, covers a first
+    pub put-put : (q : Rack) → Fits q → q .boards ≡ r .boards → length (q .blocks) ≡ length (r .blocks) → length (q .mesh) ≤ length (r .mesh) → put r (put q s) ≡ put r s
+    unfolding put rackLayout
+    put-put q f n b m =
+        let k : ℕ = length (r .blocks) in
+        let M : Layout (List Message) = items message 64 (length (r .mesh)) in
+        let K : Layout (List Block) = items (block (r .boards)) k k in
+        let u : List ℕ = slice (header .size) (M .size + K .size) s in
+        let lu : length u ≡ M .size + K .size = length-part (header .size) (M .size + K .size) s room′ in
+        let mesh-room : length (r .mesh) * message .size ≤ length (take (M .size) u) =
+        le-trans (mul-le-mul-right (message .size) (fits .messages)) (le-of-eq (sym (length-take-le (M .size) u (omega arith)))) in
+        let blocks-room : k * block (r .boards) .size ≤ length (slice (M .size) (K .size) u) =
+        le-of-eq (sym (length-part (M .size) (K .size) u (le-of-eq (sym lu)))) in
+        let mlaw = mesh-law (r .boards) k (length (r .mesh)) (fits .boards) (fits .messages) in
+        let klaw = blocks-law (r .boards) k (length (r .mesh)) (fits .boards) (fits .messages) in
+        ap (λ (t : List ℕ). rackLayout (r .boards) k (length (r .mesh)) .write (fromRack r) t) (λ i. rackLayout (n i) (b i) (length (q .mesh)) .write (fromRack q) s)
+        ∙ pair-again header (pair M K) header-lawful (pair-lawful M K mlaw klaw) (fromRack r) (fromRack q) s room′
+        (header-lawful .again (fromRack r .0) (fromRack q .0) (take (header .size) s) (fitting r fits .0) (fitting q f .0) (le-of-eq (sym (length-take-le (header .size) s (omega (arith, room, header-size))))))
+        (pair-again M K mlaw klaw (fromRack r .1) (fromRack q .1) u (le-of-eq (sym lu))
+        (items-again message message-lawful (r .mesh) (q .mesh) (take (M .size) u) (fits .mesh-fits) (f .mesh-fits) m mesh-room)
+        (items-again (block (r .boards)) (block-lawful (r .boards) (fits .boards)) (r .blocks) (q .blocks) (slice (M .size) (K .size) u) (fits .blocks-fit)
+        (subst (λ (j : ℕ). All (BlockFits j) (q .blocks)) n (f .blocks-fit)) (le-of-eq b) blocks-room))

@@ -1,0 +1,63 @@
+-- The list theorem, by induction on the list: each accepted step keeps the rack sound and coherent, and a refused one changes nothing.
+use mathlib.Core.Path.{_≡_, refl, sym, ap, ap₂, _∙_, subst}
+use mathlib.Core.Bool.{true}
+use mathlib.Core.List.{List, [], _∷_, _++_, append-assoc}
+use Prim.Native.Nat.{ℕ}
+use lib.ListN.{length, length-replicate}
+use Rattle.spec_wire.specs.declared.Step.{Step}
+use Rattle.spec_rack.specs.Rack.{Rack, fresh}
+use Rattle.spec_rack.specs.Soundness.{sizes}
+use Rattle.spec_rack.specs.Rules.{Outcome, refused, accepted, rules}
+use Rattle.spec_rack.specs.FlatMemory.{Memory, Access, blank, accessed, given, flat, rackAfter, answered, handed, accessOf, run, answers, accesses}
+use Rattle.spec_rack.specs.RackCoherence.{Holds, Coherence}
+use Rattle.spec_rack.proofs.SoundnessFacts.{Sound}
+use Rattle.spec_rack.proofs.BlockInvariant.{Coherent}
+use Rattle.spec_rack.proofs.StepPreservation.{Keeps, Kept, accessedAll, step-keeps}
+use Rattle.spec_rack.proofs.FreshRack.{opened, fresh-sound, fresh-coherent}
+
+pub flat-append : (mem : Memory) (xs ys : List Access) → flat mem (xs ++ ys) ≡ flat mem xs ++ flat (accessedAll mem xs) ys
+unfolding flat
+flat-append mem [] ys = refl
+flat-append mem (a ∷ xs) ys =
+    ap (λ (l : List ℕ). given mem a ++ l) (flat-append (accessed mem a) xs ys)
+    ∙ sym (append-assoc (given mem a) (flat (accessed mem a) xs) (flat (accessedAll (accessed mem a) xs) ys))
+
+-- a list that took r to r′: `got` is what its loads gave, `want` what the flat memory gives
+pub record Ran (r r′ : Rack) (got want : List ℕ) : Type 0 where
+  pub sound : Sound r′
+  pub boards : r′ .boards ≡ r .boards
+  pub tokens : r′ .tokens ≡ r .tokens
+  pub count : length (r′ .blocks) ≡ length (r .blocks)
+  pub same : got ≡ want
+
+pub run-keeps : (ss : List Step) (r : Rack) (mem : Memory) → Sound r → Coherent r mem
+    → Ran r (run r ss) (answers r ss) (flat mem (accesses r ss))
+unfolding run answers accesses flat
+run-keeps [] r mem s coh = record { sound = s; boards = refl; tokens = refl; count = refl; same = refl }
+run-keeps (t ∷ ss) r mem s coh = go (λ q m sq cq. run-keeps ss q m sq cq) (rules r t) (step-keeps r s t)
+  where
+    go : ((q : Rack) (m : Memory) → Sound q → Coherent q m → Ran q (run q ss) (answers q ss) (flat m (accesses q ss)))
+        → (o : Outcome) → Keeps (Kept r t) o
+        → Ran r (run (rackAfter r o) ss) (answered o ++ answers (rackAfter r o) ss) (flat mem (handed o t ++ accesses (rackAfter r o) ss))
+    go rest (refused n) k = rest r mem s coh
+    go rest (accepted a r′) k =
+        let i = rest r′ (accessedAll mem (accessOf t)) (k .sound) (k .coherent mem coh) in
+        record {
+          sound = i .sound;
+          boards = i .boards ∙ k .boards;
+          tokens = i .tokens ∙ k .tokens;
+          count = i .count ∙ k .count;
+          same = ap₂ _++_ (k .word mem coh) (i .same) ∙ sym (flat-append mem (accessOf t) (accesses r′ ss));
+        }
+
+pub coherence : Coherence
+coherence n b t r ss e =
+    let o = opened n b t r e in
+    subst (λ (q : Rack). Holds b t q ss) (o .1) (from (o .0))
+  where
+    from : sizes n b t ≡ true → Holds b t (fresh n b t) ss
+    from fits =
+        let v = run-keeps ss (fresh n b t) (blank b) (fresh-sound n b t fits) (fresh-coherent n b t) in (
+          v .same,
+          λ k l. let q = v .sound .blocks k (rw (v .count, length-replicate) l) in (q .tokens ∙ v .tokens, q .owners),
+        )

@@ -1,0 +1,235 @@
+-- A send and a delivery move tokens between a cell and the mesh, and none is made or lost; a claim moves none.
+use mathlib.Core.Path.{_≡_, refl, sym, ap, _∙_}
+use mathlib.Core.Bool.{Bool, true, false, not, cond, _&&_, _||_}
+use mathlib.Core.List.{List, [], _∷_, _++_}
+use Prim.Native.Nat.{ℕ, _+_, _^_, _≤_, _<_}
+use native.Mathlib.Omega.{arith}
+use borrow.Author.Tests.{ltb-true, lt-ltb}
+use lib.ListN.{length, getD, length-set}
+use lib.Dec.{eqb, ltb}
+use Rattle.spec_base.specs.Folds.{toℕ, removeAt}
+use Rattle.spec_base.proofs.Tests.{differs, and-l, and-r, and-of}
+use Rattle.spec_base.proofs.Folds.{all-at, all-snoc, all-removed, all-replicate, sum-snoc, sum-removed, sum-at, length-snoc, length-removed}
+use Rattle.spec_rack.specs.Claims.{Claims, active}
+use Rattle.spec_rack.proofs.Claims.{SoundClaims}
+use Rattle.spec_rack.specs.declared.Message.{Message}
+use Rattle.spec_rack.specs.Rack.{Cell, Block, Rack, meshLimit, zeros, noCell, noMessage, blockAt, claimsAt, cellAt, messageAt, owners, held, carried}
+use Rattle.spec_rack.specs.Rules.{withCell, withClaims, withoutTokens, withTokens, message, sent, delivered, forwarded}
+use Rattle.spec_rack.specs.FlatMemory.{Memory}
+use Rattle.spec_base.proofs.Tests.{cond-of, or-keeps}
+use Rattle.spec_rack.proofs.SoundnessFacts.{SoundCell, SoundMessage, SoundShape, Sound}
+use Rattle.spec_rack.proofs.BlockInvariant.{cellOwners, messageOwners, counted, not-counted, in-flight-at, Everywhere, CellHas, MessageHas, Coherent, Fit, CellFits, MessageFits, Fits, message-sound, cell-in, cell-sound, cell-is, CellBalanced, changed-sound, changed-everywhere, with-cell-sound, with-cell-everywhere}
+
+-- a rack that is sound, and coherent and of words that fit where the rack before it was
+pub record Moved (r r′ : Rack) : Type 0 where
+  pub sound : Sound r′
+  pub coherent : (mem : Memory) → Coherent r mem → Coherent r′ mem
+  pub fits : Fits r → Fits r′
+
+-- ---- what a send takes from a cell
+
+module _ (x : Cell) (p : ℕ) (o : Bool) (enough : p ≤ x .plain) (owned : o ≡ true → x .owner ≡ true) where
+  owners-less : cellOwners (withoutTokens x p o) + toℕ o ≡ cellOwners x
+  owners-less = go (x .owner) o owned
+    where
+      go : (a t : Bool) → (t ≡ true → a ≡ true) → toℕ (a && not t) + toℕ t ≡ toℕ a
+      go true true h = refl
+      go true false h = refl
+      go false true h = differs (sym (h refl))
+      go false false h = refl
+
+  held-less : held (withoutTokens x p o) + (p + toℕ o) ≡ held x
+  held-less = omega (arith, owners-less)
+
+less-sound : (x : Cell) (p : ℕ) (o : Bool) → SoundCell x → SoundCell (withoutTokens x p o)
+less-sound x p o s =
+    record {
+      eight = s .eight;
+      token = λ v. ltb-true _ _ (and-r (x .valid) (ltb 0 (held (withoutTokens x p o))) v);
+      current = λ w. and-of _ _ (s .current (and-l (x .owner) (not o) w)) (lt-ltb 0 (held (withoutTokens x p o)) (omega (arith, ap owners w)));
+    }
+
+-- ---- what a delivery gives to a cell
+
+module _ (x : Cell) (m : Message) where
+  more-has : (mem : Memory) (b : ℕ) → CellHas mem b x → (m .«data» ≡ true → m .words ≡ getD mem b []) → CellHas mem b (withTokens x m)
+  more-has mem b hx hm = go (x .valid) (m .«data») hx hm
+    where
+      go : (v d : Bool) → (v ≡ true → x .words ≡ getD mem b []) → (d ≡ true → m .words ≡ getD mem b [])
+          → (v || d) ≡ true → cond d (m .words) (x .words) ≡ getD mem b []
+      go v true f g h = g refl
+      go true false f g h = f refl
+      go false false f g h = f h
+
+  -- at most one of the two has the owner
+  module _ (once : cellOwners x + messageOwners m ≤ 1) where
+    owners-more : cellOwners (withTokens x m) ≡ cellOwners x + messageOwners m
+    owners-more = go (x .owner) (m .owner) once
+      where
+        go : (a t : Bool) → toℕ a + toℕ t ≤ 1 → toℕ (a || t) ≡ toℕ a + toℕ t
+        go true true h = absurd (omega arith)
+        go true false h = refl
+        go false t h = omega arith
+
+    held-more : held (withTokens x m) ≡ held x + carried m
+    held-more = omega (arith, owners-more)
+
+    more-sound : (n b : ℕ) → SoundCell x → SoundMessage n b m → SoundCell (withTokens x m)
+    more-sound n b sx sm =
+        record {
+          eight = cond-of (λ (ws : List ℕ). length ws ≡ 8) (m .«data») (m .words) (x .words) (sm .eight) (sx .eight);
+          token = λ v. omega (arith, held-more, sm .token);
+          current = or-keeps (x .owner) (m .owner) (x .valid) (m .«data») (sx .current) (sm .current);
+        }
+
+-- ---- a figure f of a cell and g of a message that stays as it was in all
+
+module _ (r : Rack) (f : Cell → ℕ) (g : Message → ℕ) where
+  -- what block j has in a message y
+  at : ℕ → Message → ℕ
+  at j y = cond (eqb (y .block) j) (g y) 0
+
+  sent-balanced : (b c : ℕ) (x : Cell) (m : Message) → m .block ≡ b → f x + g m ≡ f (cellAt r b c)
+      → CellBalanced r b c x (r .mesh ++ m ∷ []) f g
+  unfolding at
+  sent-balanced b c x m e same =
+      record {
+        here = omega (arith, sum-snoc (at b) (r .mesh) m, counted g b m e);
+        there = λ j ne. omega (arith, sum-snoc (at j) (r .mesh) m, not-counted g j m (λ q. ne (sym q ∙ e)));
+      }
+
+  delivered-balanced : (i c : ℕ) (x : Cell) → i < length (r .mesh) → f x ≡ f (cellAt r (messageAt r i .block) c) + g (messageAt r i)
+      → CellBalanced r (messageAt r i .block) c x (removeAt (r .mesh) i) f g
+  unfolding at
+  delivered-balanced i c x h same =
+      let m = messageAt r i in
+      record {
+        here = omega (arith, sum-removed (at (m .block)) (r .mesh) i noMessage h, counted g (m .block) m refl);
+        there = λ j ne. omega (arith, sum-removed (at j) (r .mesh) i noMessage h, not-counted g j m (λ q. ne (sym q)));
+      }
+
+-- ---- a rack after a send, after a delivery, and with other claims on a block
+
+module _ (r : Rack) (s : Sound r) where
+  pub sent-keeps : (c b t p : ℕ) (o d : Bool) → c ≤ r .boards → b < length (r .blocks) → t ≤ r .boards → (c ≡ t → ⊥)
+      → 0 < p + toℕ o → p ≤ cellAt r b c .plain → (o ≡ true → cellAt r b c .owner ≡ true)
+      → (o ≡ true → d ≡ true) → (d ≡ true → cellAt r b c .valid ≡ true) → length (r .mesh) < meshLimit
+      → Moved r (sent r c b t p o d)
+  unfolding sent
+  sent-keeps c b t p o d inN inB inT apart some enough owned current valid room =
+      record {
+        sound =
+            with-cell-sound r s b c inB inN (withoutTokens x p o) (r .mesh ++ m ∷ []) (less-sound x p o sx) (omega (arith, length-snoc (r .mesh) m))
+            (all-snoc (SoundMessage (r .boards) (length (r .blocks))) (r .mesh) m (s .messages) sm)
+            (sent-balanced r held carried b c (withoutTokens x p o) m refl (held-less x p o enough owned))
+            (sent-balanced r cellOwners messageOwners b c (withoutTokens x p o) m refl (owners-less x p o enough owned));
+        coherent = λ mem coh.
+            record {
+              rows = simp length-set (coh .rows);
+              has = moved (CellHas mem) (MessageHas mem) (λ has v. has (and-l (x .valid) _ v)) (λ has v. rw v (has (valid v))) (coh .has);
+            };
+        fits =
+            moved CellFits MessageFits (λ fit. fit)
+            (λ fit. cond-of Fit d (x .words) zeros fit (all-replicate (λ (w : ℕ). w < 2 ^ 32) 8 0 (omega arith)));
+      }
+    where
+      x : Cell
+      x = cellAt r b c
+
+      m : Message
+      m = message x c b t p o d
+
+      sx : SoundCell x
+      sx = cell-sound r s b c inB inN
+
+      sm : SoundMessage (r .boards) (length (r .blocks)) m
+      sm =
+          record {
+            eight = cond-of (λ (ws : List ℕ). length ws ≡ 8) d (x .words) zeros (sx .eight) refl;
+            blank = λ e. rw e refl;
+            sender = inN;
+            target = inT;
+            apart = apart;
+            block = inB;
+            token = some;
+            current = current;
+          }
+
+      moved : (P : ℕ → Cell → Type 0) (Q : Message → Type 0) → (P b x → P b (withoutTokens x p o)) → (P b x → Q m)
+          → Everywhere P Q r → Everywhere P Q (withCell r b c (withoutTokens x p o) (r .mesh ++ m ∷ []))
+      moved P Q f g h =
+          let px = cell-is r s b c inB inN P Q h in
+          with-cell-everywhere r s b c inB inN (withoutTokens x p o) (r .mesh ++ m ∷ []) P Q h (f px) (all-snoc Q (r .mesh) m (h .mesh) (g px))
+
+  pub forwarded-keeps : (c b : ℕ) → c ≤ r .boards → b < length (r .blocks) → active (claimsAt r b) ≤ r .boards → (c ≡ active (claimsAt r b) → ⊥)
+      → 0 < held (cellAt r b c) → length (r .mesh) < meshLimit → Moved r (forwarded r c b)
+  unfolding forwarded
+  forwarded-keeps c b inN inB inT apart some room =
+      sent-keeps c b _ _ _ _ inN inB inT apart some (omega arith) (λ e. e) (cell-sound r s b c inB inN .current) (λ e. e) room
+
+  pub delivered-keeps : (i : ℕ) → i < length (r .mesh) → Moved r (delivered r i)
+  unfolding delivered
+  delivered-keeps i h =
+      record {
+        sound =
+            with-cell-sound r s b c (sm .block) (sm .target) (withTokens x m) (removeAt (r .mesh) i) (more-sound x m once _ _ sx sm)
+            (omega (arith, length-removed (r .mesh) i, s .few))
+            (all-removed (SoundMessage (r .boards) (length (r .blocks))) (r .mesh) i (s .messages))
+            (delivered-balanced r held carried i c (withTokens x m) h (held-more x m once))
+            (delivered-balanced r cellOwners messageOwners i c (withTokens x m) h (owners-more x m once));
+        coherent = λ mem coh.
+            record { rows = simp length-set (coh .rows); has = moved (CellHas mem) (MessageHas mem) (more-has x m mem b) (coh .has) };
+        fits = moved CellFits MessageFits (λ fx fm. cond-of Fit (m .«data») (m .words) (x .words) fm fx);
+      }
+    where
+      m : Message
+      m = messageAt r i
+
+      b : ℕ
+      b = m .block
+
+      c : ℕ
+      c = m .target
+
+      x : Cell
+      x = cellAt r b c
+
+      sm : SoundMessage (r .boards) (length (r .blocks)) m
+      sm = message-sound r s i h
+
+      sx : SoundCell x
+      sx = cell-sound r s b c (sm .block) (sm .target)
+
+      once : cellOwners x + messageOwners m ≤ 1
+      once =
+          omega (
+            arith,
+            s .blocks b (sm .block) .owners,
+            in-flight-at r messageOwners i h,
+            sum-at cellOwners (blockAt r b .cells) c noCell (cell-in r s b c (sm .block) (sm .target)),
+          )
+
+      moved : (P : ℕ → Cell → Type 0) (Q : Message → Type 0) → (P b x → Q m → P b (withTokens x m))
+          → Everywhere P Q r → Everywhere P Q (withCell r b c (withTokens x m) (removeAt (r .mesh) i))
+      moved P Q f e =
+          with-cell-everywhere r s b c (sm .block) (sm .target) (withTokens x m) (removeAt (r .mesh) i) P Q e
+          (f (cell-is r s b c (sm .block) (sm .target) P Q e) (all-at Q (r .mesh) (e .mesh) i noMessage h)) (all-removed Q (r .mesh) i (e .mesh))
+
+  pub claims-keep : (b : ℕ) (k : Claims) → b < length (r .blocks) → SoundClaims (r .boards) k → Moved r (withClaims r b k)
+  claims-keep b k inB sk =
+      record {
+        sound =
+            changed-sound r b block (r .mesh) inB s (record { width = old .width; cells = old .cells; claims = sk }) (s .few) (s .messages)
+            (record { here = refl; there = λ j ne. refl }) (record { here = refl; there = λ j ne. refl });
+        coherent = λ mem coh. record { rows = simp length-set (coh .rows); has = kept (CellHas mem) (MessageHas mem) (coh .has) };
+        fits = kept CellFits MessageFits;
+      }
+    where
+      block : Block
+      block = record { cells = blockAt r b .cells; claims = k }
+
+      old : SoundShape (r .boards) (blockAt r b)
+      old = s .blocks b inB .shape
+
+      kept : (P : ℕ → Cell → Type 0) (Q : Message → Type 0) → Everywhere P Q r → Everywhere P Q (withClaims r b k)
+      kept P Q h = changed-everywhere r b block (r .mesh) inB P Q (h .cells b inB) (λ j l ne. h .cells j l) (h .mesh)

@@ -1,0 +1,125 @@
+-- The verdict on each kind of step, return by return. A run down the table stops at the first test that passes; each law takes what the code
+-- knows at its return: of every call its result's figure of the rack, of every branch the way that it went.
+use Prim.Native.Nat.{ℕ, _+_, _≤_, _<_}
+use native.Mathlib.Omega.{arith}
+use mathlib.Core.Path.{_≡_, sym, _∙_}
+use mathlib.Core.Bool.{Bool, true, false, not, _||_}
+use lib.Dec.{eqb, ltb}
+use lib.ListN.{length}
+use borrow.Author.Tests.{not-true, not-false}
+use Rattle.spec_base.specs.Folds.{toℕ}
+use Rattle.spec_wire.specs.declared.Refusal.the-variants.{OffRack, Home, NoToken, NoData, Short, NoMessage}
+use Rattle.spec_wire.specs.declared.Check.{Check}
+use Rattle.spec_wire.specs.declared.Check.the-variants.{Pass, Refuse}
+use Rattle.spec_wire.proofs.RefusalTable.{table}
+use Rattle.spec_wire.specs.declared.Step.the-variants.{Load, Store, Send, Deliver, Raise, Lower, Forward}
+use Rattle.spec_rack.specs.Claims.{raiseCheck, lowerCheck}
+use Rattle.spec_rack.specs.Rack.{Cell, Rack, claimsAt, cellAt, held}
+use Rattle.spec_rack.specs.Rules.{check, offRack}
+use Rattle.record.specs.declared.TokenState.{TokenState}
+use Rattle.record.specs.Changes.{TokenStateOf}
+
+-- the state tell how many tokens the cell holds
+pub held-is : {x : Cell} {m : TokenState} {h : ℕ} → TokenStateOf x m → h ≡ m .plain + toℕ (m .owner) → h ≡ held x
+held-is state tokens = tokens ∙ (λ i. state .plain i + toℕ (state .owner i))
+
+-- ---- load and store
+
+module _ (r : Rack) (c b w : ℕ) {off : Bool} (off-is : off ≡ (offRack r c b || ltb 7 w)) where
+  module _ (off-rack : off ≡ true) where
+    pub load-off-rack : Refuse OffRack ≡ check r (Load c b w)
+    unfolding check
+    load-off-rack = search (table, sym off-is ∙ off-rack) depth 10
+
+    pub store-off-rack : (v : ℕ) → Refuse OffRack ≡ check r (Store c b w v)
+    unfolding check
+    store-off-rack v = search (table, sym off-is ∙ off-rack) depth 10
+
+  module _ (on-rack : off ≡ false) {home : Bool} (home-is : home ≡ eqb c 0) where
+    module _ (at-home : home ≡ true) where
+      pub load-home : Refuse Home ≡ check r (Load c b w)
+      unfolding check
+      load-home = search (table, sym off-is ∙ on-rack, sym home-is ∙ at-home) depth 10
+
+      pub store-home : (v : ℕ) → Refuse Home ≡ check r (Store c b w v)
+      unfolding check
+      store-home v = search (table, sym off-is ∙ on-rack, sym home-is ∙ at-home) depth 10
+
+    module _ (away : home ≡ false) {m : TokenState} (state : TokenStateOf (cellAt r b c) m) {h : ℕ} (tokens : h ≡ m .plain + toℕ (m .owner)) where
+      pub load-no-token : h ≡ 0 → Refuse NoToken ≡ check r (Load c b w)
+      unfolding check
+      load-no-token none = let none : held (cellAt r b c) ≡ 0 = sym (held-is state tokens) ∙ none in search (table, sym off-is ∙ on-rack, sym home-is ∙ away) depth 10
+
+      pub load-no-data : (h ≡ 0 → ⊥) → not (m .valid) ≡ true → Refuse NoData ≡ check r (Load c b w)
+      unfolding check
+      load-no-data some stale =
+          let some : held (cellAt r b c) ≡ 0 → ⊥ = λ e. some (held-is state tokens ∙ e) in
+          let stale : cellAt r b c .valid ≡ false = sym (state .valid) ∙ not-true _ stale in
+          search (table, sym off-is ∙ on-rack, sym home-is ∙ away) depth 10
+
+      pub load-pass : (h ≡ 0 → ⊥) → not (m .valid) ≡ false → Pass ≡ check r (Load c b w)
+      unfolding check
+      load-pass some valid =
+          let some : held (cellAt r b c) ≡ 0 → ⊥ = λ e. some (held-is state tokens ∙ e) in
+          let valid : cellAt r b c .valid ≡ true = sym (state .valid) ∙ not-false _ valid in
+          search (table, sym off-is ∙ on-rack, sym home-is ∙ away) depth 10
+
+      module _ (v : ℕ) {t : ℕ} (all : r .tokens ≡ t) where
+        pub store-short : h < t → Refuse Short ≡ check r (Store c b w v)
+        unfolding check
+        store-short short = let short : held (cellAt r b c) < r .tokens = omega (arith, held-is state tokens) in search (table, sym off-is ∙ on-rack, sym home-is ∙ away) depth 10
+
+        pub store-pass : t ≤ h → Pass ≡ check r (Store c b w v)
+        unfolding check
+        store-pass has = let has : r .tokens ≤ held (cellAt r b c) = omega (arith, held-is state tokens) in search (table, sym off-is ∙ on-rack, sym home-is ∙ away) depth 10
+
+-- ---- raise and lower; send and forward off the rack
+
+module _ (r : Rack) (c b : ℕ) {off : Bool} (off-is : off ≡ offRack r c b) where
+  module _ (off-rack : off ≡ true) where
+    pub send-off-rack : (t p : ℕ) (o d : Bool) → Refuse OffRack ≡ check r (Send c b t p o d)
+    unfolding check
+    send-off-rack t p o d = search (table, sym off-is ∙ off-rack) depth 10
+
+    pub raise-off-rack : Refuse OffRack ≡ check r (Raise c b)
+    unfolding check
+    raise-off-rack = search (table, sym off-is ∙ off-rack) depth 10
+
+    pub lower-off-rack : Refuse OffRack ≡ check r (Lower c b)
+    unfolding check
+    lower-off-rack = search (table, sym off-is ∙ off-rack) depth 10
+
+    pub forward-off-rack : Refuse OffRack ≡ check r (Forward c b)
+    unfolding check
+    forward-off-rack = search (table, sym off-is ∙ off-rack) depth 10
+
+  module _ (on-rack : off ≡ false) where
+    module _ {home : Bool} (home-is : home ≡ eqb c 0) where
+      module _ (at-home : home ≡ true) where
+        pub raise-home : Refuse Home ≡ check r (Raise c b)
+        unfolding check
+        raise-home = search (table, sym off-is ∙ on-rack, sym home-is ∙ at-home) depth 10
+
+        pub lower-home : Refuse Home ≡ check r (Lower c b)
+        unfolding check
+        lower-home = search (table, sym off-is ∙ on-rack, sym home-is ∙ at-home) depth 10
+
+      module _ (away : home ≡ false) {y : Check} where
+        pub raise-verdict : y ≡ raiseCheck (claimsAt r b) c → y ≡ check r (Raise c b)
+        unfolding check
+        raise-verdict e = search (table, sym off-is ∙ on-rack, sym home-is ∙ away) depth 10
+
+        pub lower-verdict : y ≡ lowerCheck (claimsAt r b) c → y ≡ check r (Lower c b)
+        unfolding check
+        lower-verdict e = search (table, sym off-is ∙ on-rack, sym home-is ∙ away) depth 10
+
+-- ---- deliver
+
+module _ (r : Rack) (i : ℕ) {n : ℕ} (flying : length (r .mesh) ≡ n) where
+  pub deliver-no-message : n ≤ i → Refuse NoMessage ≡ check r (Deliver i)
+  unfolding check
+  deliver-no-message past = let past : length (r .mesh) ≤ i = omega arith in search table depth 10
+
+  pub deliver-pass : i < n → Pass ≡ check r (Deliver i)
+  unfolding check
+  deliver-pass in-flight = let in-flight : i < length (r .mesh) = omega arith in search table depth 10

@@ -1,0 +1,12 @@
+-- Document 01, "Step records": what the parts of the writer for C tell of a step's numbers.
+use Prim.Native.Nat.{ℕ, _+_}
+use mathlib.Core.List.{List, [], _∷_}
+use mathlib.Core.Bool.{Bool, _&&_}
+use lib.Dec.{eqb, ltb}
+use Rattle.spec_wire.specs.declared.Field.{Field}
+use Rattle.spec_wire.specs.Kinds.{valueOf}
+
+-- the fields' numbers are in bounds, and added to a number they make up a total
+unfoldable pub fieldsSumTo : List Field → ℕ → ℕ → List ℕ → Bool
+fieldsSumTo [] n total p = eqb n total
+fieldsSumTo (f ∷ fs) n total p = ltb (valueOf f p) (f .limit) && fieldsSumTo fs (n + valueOf f p) total p
