@@ -12,9 +12,9 @@ use Rattle.spec_base.specs.Layout.{slice, modifyAt, big}
 use Rattle.spec_base.proofs.Parts.{bytes-take, bytes-drop, length-part, part-part}
 use Rattle.spec_base.proofs.Laws.{Stands, Lawful, cut, cut-second, cuts-length, written}
 use Rattle.spec_base.proofs.Places.{over-in}
-use Rattle.spec_rack.specs.Boards.{places, empty, insert, remove}
+use Rattle.spec_rack.specs.Boards.{boardRoom, empty, insert, remove}
 use Rattle.spec_rack.specs.Claims.{Claims, waiting, barring, raised, lowered}
-use Rattle.spec_rack.specs.RecordLayout.{claims, setOffset, claimsAtOffset, putClaims}
+use Rattle.spec_rack.specs.RecordLayout.{claims, setOffset, claimsAtOffset, putClaims, claimsSize}
 use Rattle.spec_base.proofs.Maps.{mapFirst, mapFirst-none, mapFirst-more, mapFirst-all}
 use Rattle.spec_rack.proofs.LayoutParts.{ClaimsFit, claims-size, claims-lawful}
 use Rattle.arbiter.proofs.SetBytes.{set-offset, set-place, length-claims, waiting-is}
@@ -25,7 +25,7 @@ use Rattle.arbiter.proofs.SetBytes.{set-offset, set-place, length-claim
 abbrev pub Fit : ℕ → Claims → Type 0
 Fit n c = ClaimsFit n c
 
-lawful : (n : ℕ) → n < places → Lawful (claims n) (Fit n)
+lawful : (n : ℕ) → n < boardRoom → Lawful (claims n) (Fit n)
 lawful n fits = claims-lawful n (omega arith)
 
 -- the record s is the record s₀ with the claims c in its bytes from a place on
@@ -33,22 +33,22 @@ pub record Stored (n at : ℕ) (s₀ : List ℕ) (c : Claims) (s : List ℕ) : T
   pub fit : Fit n c
   pub is : s ≡ putClaims n at c s₀
 
-module _ (n at : ℕ) (fits : n < places) (s₀ : List ℕ) (bytes : Bytes s₀) (room : at + 34 ≤ length s₀) (form : claims n .wellFormed (slice at 34 s₀) ≡ true) where
+module _ (n at : ℕ) (fits : n < boardRoom) (s₀ : List ℕ) (bytes : Bytes s₀) (room : at + claimsSize ≤ length s₀) (form : claims n .wellFormed (slice at claimsSize s₀) ≡ true) where
   here : List ℕ
-  here = slice at 34 s₀
+  here = slice at claimsSize s₀
 
   bytes-here : Bytes here
   unfolding here
-  bytes-here = bytes-take 34 (drop at s₀) (bytes-drop at s₀ bytes)
+  bytes-here = bytes-take claimsSize (drop at s₀) (bytes-drop at s₀ bytes)
 
-  length-here : length here ≡ 34
+  length-here : length here ≡ claimsSize
   unfolding here
-  length-here = length-part at 34 s₀ room
+  length-here = length-part at claimsSize s₀ room
 
   whole : claims n .size ≤ length here
   whole = rw (claims-size n) (le-of-eq (sym length-here))
 
-  inside : (i : ℕ) → i ≤ n → setOffset i + 2 ≤ 34
+  inside : (i : ℕ) → i ≤ n → setOffset i + 2 ≤ claimsSize
   inside i l = rw (claims-size n) at (set-place n fits i l .inside)
 
   stands : Stands (claims n) here
@@ -60,7 +60,7 @@ module _ (n at : ℕ) (fits : n < places) (s₀ : List ℕ) (bytes : Bytes s₀)
   stored-start =
       record {
         fit = lawful n fits .holds here bytes-here;
-        is = sym (ap (λ (r : List ℕ). take at s₀ ++ (r ++ drop (at + 34) s₀)) (lawful n fits .unchanged here stands) ∙ cut at 34 s₀);
+        is = sym (ap (λ (r : List ℕ). take at s₀ ++ (r ++ drop (at + claimsSize) s₀)) (lawful n fits .unchanged here stands) ∙ cut at claimsSize s₀);
       }
 
   module _ (c : Claims) (s : List ℕ) (h : Stored n at s₀ c s) where
@@ -69,15 +69,15 @@ module _ (n at : ℕ) (fits : n < places) (s₀ : List ℕ) (bytes : Bytes s₀)
 
     pub stored-length : length s ≡ length s₀
     unfolding here
-    stored-length = ap length (h .is) ∙ cuts-length at 34 (take at s₀) (claims n .write c here) s₀ refl kept
+    stored-length = ap length (h .is) ∙ cuts-length at claimsSize (take at s₀) (claims n .write c here) s₀ refl kept
 
-    part-stored : slice at 34 s ≡ claims n .write c here
+    part-stored : slice at claimsSize s ≡ claims n .write c here
     unfolding here
-    part-stored = ap (slice at 34) (h .is) ∙ cut-second at 34 (take at s₀) (claims n .write c here) s₀ refl kept room
+    part-stored = ap (slice at claimsSize) (h .is) ∙ cut-second at claimsSize (take at s₀) (claims n .write c here) s₀ refl kept room
 
     pub stored-read : (i : ℕ) → i ≤ n → big 2 .read (slice (at + setOffset i) 2 s) ≡ barring c i
     stored-read i l =
-        ap (big 2 .read) (sym (part-part at 34 (setOffset i) 2 s (inside i l)) ∙ ap (slice (setOffset i) 2) part-stored)
+        ap (big 2 .read) (sym (part-part at claimsSize (setOffset i) 2 s (inside i l)) ∙ ap (slice (setOffset i) 2) part-stored)
         ∙ sym (set-place n fits i l .looks (claims n .write c here))
         ∙ ap (λ (d : Claims). barring d i) (lawful n fits .back c here (h .fit) whole)
 
@@ -88,8 +88,8 @@ module _ (n at : ℕ) (fits : n < places) (s₀ : List ℕ) (bytes : Bytes s₀)
           fit = more;
           is =
               ap (modifyAt (at + setOffset i) 2 (big 2 .write v)) (h .is)
-              ∙ over-in (big 2 .write v) (claims n .write c) at 34 (setOffset i) 2 s₀ kept room (inside i l)
-              ∙ ap (λ (r : List ℕ). take at s₀ ++ (r ++ drop (at + 34) s₀))
+              ∙ over-in (big 2 .write v) (claims n .write c) at claimsSize (setOffset i) 2 s₀ kept room (inside i l)
+              ∙ ap (λ (r : List ℕ). take at s₀ ++ (r ++ drop (at + claimsSize) s₀))
               (sym (set-place n fits i l .changes v (claims n .write c here) (written (claims n) (lawful n fits) c here (h .fit) bytes-here whole))
               ∙ ap (λ (d : Claims). claims n .write (set d i v) (claims n .write c here)) (lawful n fits .back c here (h .fit) whole)
               ∙ lawful n fits .again (set c i v) c here more (h .fit) whole);
@@ -121,7 +121,7 @@ rest-length : (n : ℕ) (c : Claims) → length c ≡ suc n → length (drop 1 c
 rest-length n [] e = absurd (omega arith)
 rest-length n (w ∷ c) e = omega arith
 
-module _ (n at : ℕ) (fits : n < places) (s₀ : List ℕ) (bytes : Bytes s₀) (room : at + 34 ≤ length s₀) (form : claims n .wellFormed (slice at 34 s₀) ≡ true) (i : ℕ) where
+module _ (n at : ℕ) (fits : n < boardRoom) (s₀ : List ℕ) (bytes : Bytes s₀) (room : at + claimsSize ≤ length s₀) (form : claims n .wellFormed (slice at claimsSize s₀) ≡ true) (i : ℕ) where
   abbrev c₀ : Claims
   c₀ = before n at s₀
 

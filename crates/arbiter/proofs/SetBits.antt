@@ -10,21 +10,21 @@ use borrow.Author.Tests.{eq-eqb, ne-eqb}
 use lib.Dec.{eqb}
 use lib.Bits.{bitAnd, bitOr, and-shr, and-step, and-high, and-lt, or-add-and}
 use lib.Count.{ones, ones-cat, trailingZeros, under}
-use lib.Pow.{pow-pos, pow-add, shl-exact, shr-shr, mod-pow-add}
+use lib.Pow.{pow-pos, pow-add, pow-mono, shl-exact, shr-shr, mod-pow-add}
 use Rattle.spec_base.specs.Folds.{toℕ, countBelow}
-use Rattle.spec_base.proofs.Tests.{either, differs}
-use Rattle.spec_rack.specs.Boards.{places, bit, member, insert, remove, subset, boardsOnly, firstFrom, lowest, size}
-use Rattle.spec_rack.proofs.Boards.{bit-lt, bit-member, bit-in, bit-out, bit-zero, bit-le, in-of-bit, out-of-bit, insert-in, insert-out, remove-in, remove-out, bits-ext, subset-at, subset-of, boards-no-home, boards-top, boards-from}
+use Rattle.spec_base.proofs.Tests.{either, differs, same-test}
+use Rattle.spec_rack.specs.Boards.{boardRoom, bit, member, insert, remove, subset, boardsOnly, firstFrom, lowest, size}
+use Rattle.spec_rack.proofs.Boards.{bit-lt, bit-member, bit-in, bit-out, bit-zero, bit-suc, bit-le, in-of-bit, out-of-bit, insert-in, insert-out, remove-in, remove-out, bits-ext, subset-at, subset-of, boards-at, boards-subset, boards-from}
 
 -- `1 << i`
-pub shl-one : (i : ℕ) → i < places → (1 * 2 ^ i) % 2 ^ places ≡ 2 ^ i
-shl-one i l = shl-exact {a = 1} 1 i places (omega arith) (omega arith) ∙ omega arith
+pub shl-one : (i : ℕ) → i < boardRoom → (1 * 2 ^ i) % 2 ^ boardRoom ≡ 2 ^ i
+shl-one i l = shl-exact {a = 1} 1 i boardRoom (omega arith) (omega arith) ∙ omega arith
 
 and-bit : (s i : ℕ) → bitAnd s (2 ^ i) ≡ bit s i * 2 ^ i
 unfolding bit
 and-bit s i = ap (bitAnd s) (sym (ap (λ (x : ℕ). x - 2 ^ i) (pow-add 2 1 i) ∙ omega arith)) ∙ and-high s 1 i
 
-or-insert : (s i : ℕ) → bitOr s (2 ^ i) ≡ insert s i
+pub or-insert : (s i : ℕ) → bitOr s (2 ^ i) ≡ insert s i
 or-insert s i =
     ⊎-elim
     (λ h. omega (arith, or-add-and s (2 ^ i), and-bit s i, ap (λ (x : ℕ). x * 2 ^ i) (bit-in s i h), insert-in s i h))
@@ -32,7 +32,7 @@ or-insert s i =
     (either (member s i))
 
 -- `s | 1 << i`
-pub shl-insert : (s i : ℕ) → i < places → bitOr s ((1 * 2 ^ i) % 2 ^ places) ≡ insert s i
+pub shl-insert : (s i : ℕ) → i < boardRoom → bitOr s ((1 * 2 ^ i) % 2 ^ boardRoom) ≡ insert s i
 shl-insert s i l = ap (bitOr s) (shl-one i l) ∙ or-insert s i
 
 pub insert-above : (s i : ℕ) → 2 ^ i ≤ insert s i
@@ -52,12 +52,12 @@ bit-and a b i =
     ap (λ (x : ℕ). x % 2) (and-shr a b i ∙ and-step (a / 2 ^ i) (b / 2 ^ i)) ∙ omega arith
 
 -- `a & b == a`
-pub and-subset : (a b : ℕ) → a < 2 ^ places → b < 2 ^ places → eqb (bitAnd a b) a ≡ subset a b
+pub and-subset : (a b : ℕ) → a < 2 ^ boardRoom → b < 2 ^ boardRoom → eqb (bitAnd a b) a ≡ subset a b
 and-subset a b ha hb = ⊎-elim yes-it-is no-it-is-not (either (subset a b))
   where
     yes-it-is : subset a b ≡ true → eqb (bitAnd a b) a ≡ subset a b
     yes-it-is h =
-        eq-eqb (bitAnd a b) a (bits-ext places (bitAnd a b) a (and-lt places a b ha hb) ha
+        eq-eqb (bitAnd a b) a (bits-ext boardRoom (bitAnd a b) a (and-lt boardRoom a b ha hb) ha
         (λ i l. ⊎-elim
         (λ m. omega (arith, bit-and a b i, bit-in a i m, bit-in b i (subset-at a b h i l m)))
         (λ m. omega (arith, bit-and a b i, bit-out a i m))
@@ -85,9 +85,9 @@ trailing-first (suc k) s i =
     ∙ sym (ap (λ (t : Bool). cond t i (firstFrom k s (suc i))) h))
     (either (member s i))
 
-pub trailing-lowest : (s : ℕ) → trailingZeros places s ≡ lowest s
+pub trailing-lowest : (s : ℕ) → trailingZeros boardRoom s ≡ lowest s
 unfolding lowest
-trailing-lowest s = ap (trailingZeros places) (sym (div-one s)) ∙ omega arith ∙ trailing-first places s 0
+trailing-lowest s = ap (trailingZeros boardRoom) (sym (div-one s)) ∙ omega arith ∙ trailing-first boardRoom s 0
 
 -- `u16::count_ones(s)`
 ones-bit : (b : Bool) → ones (toℕ b) ≡ toℕ b
@@ -103,28 +103,31 @@ ones-below (suc k) s =
     ∙ ones-cat k (bit s k) (s % 2 ^ k) (mod-lt s (pow-pos k))
     ∙ ap₂ _+_ (ap ones (bit-member s k) ∙ ones-bit (member s k)) (ones-below k s)
 
-pub ones-size : (s : ℕ) → s < 2 ^ places → ones s ≡ size s
+pub ones-size : (s : ℕ) → s < 2 ^ boardRoom → ones s ≡ size s
 unfolding size
-ones-size s h = ap ones (sym (mod-eq-of-lt h)) ∙ ones-below places s
+ones-size s h = ap ones (sym (mod-eq-of-lt h)) ∙ ones-below boardRoom s
 
--- `s % 2 == 1`, and otherwise `s >> (n + 1) == 0`
-pub odd-boards : (n s : ℕ) → s % 2 ≡ 1 → false ≡ boardsOnly n s
-odd-boards n s h =
-    ⊎-elim (λ b. differs (sym (in-of-bit s 0 (bit-zero s ∙ h)) ∙ boards-no-home n s b)) sym (either (boardsOnly n s))
+-- `(2 << n) - 2`: the set of all boards
+low-in : (n i : ℕ) → i < n → bit (2 ^ n - 1) i ≡ 1
+low-in zero i l = absurd (omega arith)
+low-in (suc m) zero l = bit-zero (2 ^ suc m - 1) ∙ omega (arith, pow-pos m)
+low-in (suc m) (suc i) l =
+    bit-suc (2 ^ suc m - 1) i ∙ ap (λ (x : ℕ). bit x i) (let e : (2 ^ suc m - 1) / 2 ≡ 2 ^ m - 1 = omega (arith, pow-pos m) in e) ∙ low-in m i (omega arith)
 
-pub shr-boards : (n s : ℕ) → s < 2 ^ places → (s % 2 ≡ 1 → ⊥) → eqb (s / 2 ^ (n + 1)) 0 ≡ boardsOnly n s
-shr-boards n s l h = ⊎-elim fits not-fits (either (boardsOnly n s))
-  where
-    fits : boardsOnly n s ≡ true → eqb (s / 2 ^ (n + 1)) 0 ≡ boardsOnly n s
-    fits b = eq-eqb (s / 2 ^ (n + 1)) 0 (div-eq-of-lt (rw add-one (boards-top n s b))) ∙ sym b
+all-in : (n i : ℕ) → 1 ≤ i → i ≤ n → bit (2 * 2 ^ n - 2) i ≡ 1
+all-in n zero h l = absurd (omega arith)
+all-in n (suc i) h l =
+    bit-suc (2 * 2 ^ n - 2) i ∙ ap (λ (x : ℕ). bit x i) (let e : (2 * 2 ^ n - 2) / 2 ≡ 2 ^ n - 1 = omega (arith, pow-pos n) in e) ∙ low-in n i (omega arith)
 
-    even : member s 0 ≡ false
-    even = out-of-bit s 0 (bit-zero s ∙ omega arith)
+pub all-shl : (n : ℕ) → n < boardRoom → (2 * 2 ^ n) % 2 ^ 32 ≡ 2 * 2 ^ n
+all-shl n l = shl-exact {a = 2} 2 n 32 (omega arith) (omega arith)
 
-    not-fits : boardsOnly n s ≡ false → eqb (s / 2 ^ (n + 1)) 0 ≡ boardsOnly n s
-    not-fits b =
-        ne-eqb (s / 2 ^ (n + 1)) 0
-        (λ e. let none : s / 2 ^ (n + 1) < 1 = omega arith in
-        let below : s < 2 ^ (n + 1) = omega (arith, div-lt-iff-lt-mul (pow-pos (n + 1)) .0 none) in
-        differs (sym (boards-from n s l even (rw add-one at below)) ∙ b))
-        ∙ sym b
+pub all-lt : (n : ℕ) → n < boardRoom → (2 ≤ 2 * 2 ^ n) × (2 * 2 ^ n - 2 < 2 ^ boardRoom)
+all-lt n l = let top : 2 ^ suc n ≤ 2 ^ boardRoom = pow-mono (let h : suc n ≤ boardRoom = omega arith in h) in (omega (arith, pow-pos n), omega (arith, pow-pos n))
+
+pub all-boards : (n s : ℕ) → n < boardRoom → s < 2 ^ boardRoom → subset s (2 * 2 ^ n - 2) ≡ boardsOnly n s
+all-boards n s l h =
+    same-test (subset s (2 * 2 ^ n - 2)) (boardsOnly n s)
+    (λ q. boards-subset n s (2 * 2 ^ n - 2) h q
+    (boards-from n (2 * 2 ^ n - 2) (all-lt n l .1) (out-of-bit (2 * 2 ^ n - 2) 0 (bit-zero (2 * 2 ^ n - 2) ∙ omega (arith, pow-pos n))) (omega (arith, pow-pos n))))
+    (λ q. subset-of s (2 * 2 ^ n - 2) (λ i u m. let w = boards-at n s q i m in in-of-bit (2 * 2 ^ n - 2) i (all-in n i (w .0) (w .1))))

@@ -11,41 +11,19 @@ use lib.ListN.{length, getD, set, take, drop}
 use lib.Seq.{drop-cons, take-take}
 use Rattle.spec_base.specs.Folds.{allBelow}
 use Rattle.spec_base.specs.Number.{number}
-use Rattle.spec_base.specs.Layout.{slice, modifyAt, overwrite, big, pair, items, wellFormedItems, zeroed}
+use Rattle.spec_base.specs.Layout.{slice, big, pair, items, wellFormedItems, zeroed}
 use Rattle.spec_base.proofs.Tests.{and-true, and-known}
 use Rattle.spec_base.proofs.Folds.{below-of}
-use Rattle.spec_base.proofs.Numbers.{number-two}
 use Rattle.spec_base.proofs.Parts.{part-part}
 use Rattle.spec_base.proofs.Laws.{Lawful, big-lawful, pair-lawful, items-lawful, length-readItems}
 use Rattle.spec_base.proofs.Places.{Place, within, first, second, item, formed-below}
 use Rattle.spec_base.proofs.Forms.{formed-pair}
 use Rattle.spec_base.proofs.Padded.{zeroed-lawful, padded-place, zeros-formed, formed-zeroed}
 use Rattle.spec_base.proofs.Lanes.{place-iso}
-use Rattle.spec_rack.specs.Boards.{places, empty}
+use Rattle.spec_rack.specs.Boards.{boardRoom, empty}
 use Rattle.spec_rack.specs.Claims.{waiting, barring}
-use Rattle.spec_rack.specs.RecordLayout.{barringSets, toClaims, fromClaims, claims, setOffset, claimsAtOffset}
+use Rattle.spec_rack.specs.RecordLayout.{barringSets, toClaims, fromClaims, claims, setOffset, claimsAtOffset, claimsSize}
 use Rattle.spec_rack.proofs.LayoutParts.{claims-size, sets-lawful}
-
--- ---- two bytes
-
-pub read-set-is : (p : ℕ) (s : List ℕ) → p + 2 ≤ length s → big 2 .read (slice p 2 s) ≡ getD s p 0 * 256 + getD s (p + 1) 0
-read-set-is p s l = ap number (take-take 2 2 (drop p s) (omega arith)) ∙ number-two p s l
-
-two-bytes : (p x y : ℕ) (s : List ℕ) → suc p < length s → set (set s p x) (suc p) y ≡ take p s ++ (x ∷ y ∷ drop (suc (suc p)) s)
-two-bytes p x y [] l = absurd (omega arith)
-two-bytes zero x y (a ∷ []) l = absurd (omega arith)
-two-bytes zero x y (a ∷ b ∷ s) l = refl
-two-bytes (suc p) x y (a ∷ s) l = ap (λ (r : List ℕ). a ∷ r) (two-bytes p x y s (le-of-suc-le-suc l))
-
-pub write-set-is : (p v : ℕ) (s : List ℕ) → p + 2 ≤ length s → v < 65536
-    → set (set s p (v / 256)) (p + 1) (v % 256) ≡ modifyAt p 2 (big 2 .write v) s
-unfolding overwrite
-write-set-is p v s l h =
-    let first : p < length s = omega arith in
-    let second : suc p < length s = omega arith in
-    let high : v / 256 % 256 ≡ v / 256 = omega arith in
-    let end : p + 2 ≡ suc (suc p) = omega arith in
-    rw (end, drop-cons s p 0 first, drop-cons s (suc p) 0 second, high, add-one) (two-bytes p (v / 256) (v % 256) s (omega arith))
 
 -- ---- a set among the claims
 
@@ -56,7 +34,7 @@ pub set-offset : (i : ℕ) → 1 ≤ i → setOffset i ≡ 2 * i
 set-offset zero l = absurd (omega arith)
 set-offset (suc i) l = refl
 
-module _ (n : ℕ) (fits : n < places) where
+module _ (n : ℕ) (fits : n < boardRoom) where
   few : n ≤ 15
   few = omega arith
 
@@ -87,9 +65,9 @@ module _ (n : ℕ) (fits : n < places) where
   -- the set of number i at a place of the record
   pub set-is : (at i : ℕ) (s : List ℕ) → i ≤ n → big 2 .read (slice (at + setOffset i) 2 s) ≡ barring (claimsAtOffset n at s) i
   set-is at i s l =
-      let in34 : setOffset i + 2 ≤ 34 = rw (claims-size n) at (set-place i l .inside) in
-      ap (big 2 .read) (sym (part-part at 34 (setOffset i) 2 s in34))
-      ∙ sym (set-place i l .looks (slice at 34 s))
+      let in34 : setOffset i + 2 ≤ claimsSize = rw (claims-size n) at (set-place i l .inside) in
+      ap (big 2 .read) (sym (part-part at claimsSize (setOffset i) 2 s in34))
+      ∙ sym (set-place i l .looks (slice at claimsSize s))
 
 pub length-claims : (n at : ℕ) (s : List ℕ) → length (claimsAtOffset n at s) ≡ suc n
 unfolding claims barringSets
@@ -100,15 +78,15 @@ pub waiting-is : (n at : ℕ) (s : List ℕ) → big 2 .read (slice (at + 32) 2 
 unfolding claims barringSets
 waiting-is n at s =
     ap (big 2 .read)
-    (sym (part-part 2 32 30 2 (slice at 34 s) (omega arith) ∙ part-part at 34 32 2 s (omega arith)))
+    (sym (part-part 2 32 30 2 (slice at claimsSize s) (omega arith) ∙ part-part at claimsSize 32 2 s (omega arith)))
 
 -- the barring set of board i
-pub barring-is : (n at i : ℕ) (s : List ℕ) → n < places → 1 ≤ i → i ≤ n → big 2 .read (slice (at + 2 * i) 2 s) ≡ barring (claimsAtOffset n at s) i
+pub barring-is : (n at i : ℕ) (s : List ℕ) → n < boardRoom → 1 ≤ i → i ≤ n → big 2 .read (slice (at + 2 * i) 2 s) ≡ barring (claimsAtOffset n at s) i
 barring-is n at i s fits low l = ap (λ (k : ℕ). big 2 .read (slice (at + k) 2 s)) (sym (set-offset i low)) ∙ set-is n fits at i s l
 
 -- the claims are of their form where the places without a set are 0
-pub claims-formed : (n at : ℕ) (s : List ℕ) → n < places
-    → claims n .wellFormed (slice at 34 s) ≡ (allBelow 2 (λ i. eqb (getD s (at + i) 0) 0) && allBelow (30 - n * 2) (λ i. eqb (getD s (at + 2 + n * 2 + i) 0) 0))
+pub claims-formed : (n at : ℕ) (s : List ℕ) → n < boardRoom
+    → claims n .wellFormed (slice at claimsSize s) ≡ (allBelow 2 (λ i. eqb (getD s (at + i) 0) 0) && allBelow (30 - n * 2) (λ i. eqb (getD s (at + 2 + n * 2 + i) 0) 0))
 unfolding claims barringSets
 claims-formed n at s fits =
     formed-pair (zeroed 2) (pair (barringSets n) (big 2)) at s

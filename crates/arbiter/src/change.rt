@@ -6,21 +6,21 @@ ghost use lib.ListN.{length};
 ghost use Rattle.spec_base.specs.Layout.{slice};
 ghost use Rattle.spec_rack.specs.Boards.{remove};
 ghost use Rattle.spec_rack.specs.Claims.{raised, lowered};
-ghost use Rattle.spec_rack.specs.RecordLayout.{claims, claimsAtOffset, putClaims};
-use super::claims::read_set;
-use super::claims::write_set;
+ghost use Rattle.spec_rack.specs.RecordLayout.{claims, claimsAtOffset, putClaims, claimsSize};
 use super::sets;
+use base::numbers::put_u16;
+use base::numbers::u16_at;
 use spec_rack::WAITING_OFFSET;
 
 // The board joins the waiting set.
 pub fn raise_at(rec: &mut [u8], at: usize, board: u8)
-    requires { ⌜ (at + 34 ≤ length (now rec)) × (board < 16) ⌝ }
-    ensures { λ r. ⌜ ((n : ℕ) → n < 16 → claims n .wellFormed (slice at 34 (now (rec .entry))) ≡ true → now (rec .exit) ≡ putClaims n at (raised (claimsAtOffset n at (now (rec .entry))) board) (now (rec .entry))) ⌝ }
+    requires { ⌜ (at + claimsSize ≤ length (now rec)) × (board < 16) ⌝ }
+    ensures { λ r. ⌜ ((n : ℕ) → n < 16 → claims n .wellFormed (slice at claimsSize (now (rec .entry))) ≡ true → now (rec .exit) ≡ putClaims n at (raised (claimsAtOffset n at (now (rec .entry))) board) (now (rec .entry))) ⌝ }
 {
     let place = at + WAITING_OFFSET;
-    let w = read_set(rec, place);
+    let w = u16_at(rec, place);
     let more = sets::insert(w, board);
-    write_set(rec, place, more);
+    put_u16(rec, place, more);
 }
 
 // The waiting set that remains where a board leaves it: every other board that waits, whatever its number.
@@ -34,23 +34,23 @@ fn remaining(waiting: u16, board: u8) -> u16
 
 // The board leaves the waiting set and every barring set; its own barring set becomes the waiting set that remains.
 pub fn lower_at(rec: &mut [u8], at: usize, boards: u8, board: u8)
-    requires { ⌜ (at + 34 ≤ length (now rec)) × (1 ≤ board) × (board ≤ boards) × (boards < 16) × (claims boards .wellFormed (slice at 34 (now rec)) ≡ true) ⌝ }
+    requires { ⌜ (at + claimsSize ≤ length (now rec)) × (1 ≤ board) × (board ≤ boards) × (boards < 16) × (claims boards .wellFormed (slice at claimsSize (now rec)) ≡ true) ⌝ }
     ensures { λ r. ⌜ now (rec .exit) ≡ putClaims boards at (lowered (claimsAtOffset boards at (now (rec .entry))) board) (now (rec .entry)) ⌝ }
 {
     let count = boards as usize;
     let mut i = 0;
     while i < count {
         let place = at + 2 + 2 * i;
-        let s = read_set(rec, place);
+        let s = u16_at(rec, place);
         let left = sets::remove(s, board);
-        write_set(rec, place, left);
+        put_u16(rec, place, left);
         i += 1;
     }
     let waiting = at + WAITING_OFFSET;
-    let w = read_set(rec, waiting);
+    let w = u16_at(rec, waiting);
     let others = sets::remove(w, board);
-    write_set(rec, waiting, others);
+    put_u16(rec, waiting, others);
     let rest = remaining(w, board);
     let own = at + 2 * (board as usize);
-    write_set(rec, own, rest);
+    put_u16(rec, own, rest);
 }

@@ -1,34 +1,58 @@
 // Numbers in lent bytes, the high byte first.
 ghost use mathlib.Core.Path.{_≡_};
 ghost use Prim.Native.Nat.{_+_, _≤_};
-ghost use lib.ListN.{length, take, drop};
-ghost use Rattle.spec_base.specs.Number.{number, digits};
+ghost use lib.ListN.{length};
+ghost use Rattle.spec_base.specs.Layout.{slice, modifyAt, big};
+ghost use Rattle.spec_base.specs.Number.{digits};
 use super::wide;
 
-// The number that the bytes make, high byte first.
-pub fn number(bytes: &[u8]) -> u32
-    requires { ⌜ length (now bytes) ≤ 4 ⌝ }
-    ensures { λ r. ⌜ r ≡ number (now (bytes .entry)) ⌝ }
+// A byte as a number of two bytes.
+fn half(byte: u8) -> u16
+    ensures { λ r. ⌜ r ≡ byte ⌝ }
 {
-    let mut sum: u32 = 0;
-    let mut i = 0;
-    while i < bytes.len() {
-        sum = sum * 256 + bytes[i] as u32;
-        i += 1;
-    }
-    sum
+    byte as u16
 }
 
-// The number that four bytes from a place on make.
-pub fn u32_at(bytes: &[u8], at: usize) -> u32
-    requires { ⌜ at + 4 ≤ length (now bytes) ⌝ }
-    ensures { λ r. ⌜ r ≡ number (take 4 (drop at (now (bytes .entry)))) ⌝ }
+// The number in the two bytes at `at`.
+pub fn u16_at(s: &[u8], at: usize) -> u16
+    requires { ⌜ at + 2 ≤ length (now s) ⌝ }
+    ensures { λ r. ⌜ r ≡ big 2 .read (slice at 2 (now (s .entry))) ⌝ }
 {
-    let a = wide(bytes[at]);
-    let b = wide(bytes[at + 1]);
-    let c = wide(bytes[at + 2]);
-    let d = wide(bytes[at + 3]);
+    let high = half(s[at]);
+    let low = half(s[at + 1]);
+    high * 256 + low
+}
+
+// Writes a number into the two bytes at `at`.
+pub fn put_u16(s: &mut [u8], at: usize, value: u16)
+    requires { ⌜ at + 2 ≤ length (now s) ⌝ }
+    ensures { λ r. ⌜ now (s .exit) ≡ modifyAt at 2 (big 2 .write value) (now (s .entry)) ⌝ }
+{
+    s[at] = (value / 256) as u8;
+    s[at + 1] = (value % 256) as u8;
+}
+
+// The number in the four bytes at `at`.
+pub fn u32_at(s: &[u8], at: usize) -> u32
+    requires { ⌜ at + 4 ≤ length (now s) ⌝ }
+    ensures { λ r. ⌜ r ≡ big 4 .read (slice at 4 (now (s .entry))) ⌝ }
+{
+    let a = wide(s[at]);
+    let b = wide(s[at + 1]);
+    let c = wide(s[at + 2]);
+    let d = wide(s[at + 3]);
     a * 16777216 + b * 65536 + c * 256 + d
+}
+
+// Writes a number into the four bytes at `at`.
+pub fn put_u32(s: &mut [u8], at: usize, value: u32)
+    requires { ⌜ at + 4 ≤ length (now s) ⌝ }
+    ensures { λ r. ⌜ now (s .exit) ≡ modifyAt at 4 (big 4 .write value) (now (s .entry)) ⌝ }
+{
+    s[at] = (value / 16777216) as u8;
+    s[at + 1] = (value / 65536 % 256) as u8;
+    s[at + 2] = (value / 256 % 256) as u8;
+    s[at + 3] = (value % 256) as u8;
 }
 
 // Writes the number over the whole of `out`, high byte first.

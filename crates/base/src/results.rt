@@ -1,4 +1,4 @@
-// The refusal table of document 01, the verdict of a run down it, and how an exported entry hands a result over.
+// The numbers of document 01's refusal table, and results of exported entries as one number.
 ghost use mathlib.Core.Path.{_≡_};
 ghost use Rattle.spec_wire.specs.Refusals.{number};
 ghost use Rattle.spec_wire.specs.Results.{done, refused};

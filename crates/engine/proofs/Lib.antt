@@ -1,4 +1,2 @@
-pub mod LetterLaws
-pub mod LetterCell
 pub mod RunLaws
 pub mod RecordLengths

@@ -16,9 +16,8 @@ use Rattle.spec_base.specs.Folds.{sum}
 use Rattle.spec_rack.specs.Entries.{stepReply, stepAfter}
 use Rattle.spec_wire.specs.Frames.{frameSize, frames}
 use Rattle.wire_reader.proofs.Framing.{cuts-first, cuts-none, cuts-zero, span}
-use Rattle.spec_rack.specs.Lists.{after, replies}
+use Rattle.spec_rack.specs.Lists.{runAll, repliesOf, after, replies, framesFrom, RunResult}
 use Rattle.spec_rack.specs.Results.{packedReply}
-use Rattle.spec_rack.specs.Lists.{framesFrom, RunResult}
 
 module _ (rec₀ list : List ℕ) (at : ℕ) (out₀ : List ℕ) where
   -- the records that are left
@@ -63,7 +62,7 @@ module _ (rec₀ list : List ℕ) (at : ℕ) (out₀ : List ℕ) where
 
       pub going-more : (v : ℕ) (rec′ : List ℕ) → v ≡ packedReply (stepReply rec (span list place end)) → rec′ ≡ stepAfter rec (span list place end)
           → Going rec′ (set out made v) end (made + 1)
-      unfolding after replies
+      unfolding runAll repliesOf
       going-more v rec′ ev er =
           let more = rest end (made + 1) in
           let shift : made + suc (length more) ≡ made + 1 + length more = omega arith in
@@ -86,7 +85,7 @@ module _ (rec₀ list : List ℕ) (at : ℕ) (out₀ : List ℕ) where
     -- the end
     module _ (none : rest place made ≡ []) where
       pub going-end : RunResult rec₀ list at out₀ made rec place out
-      unfolding after replies
+      unfolding runAll repliesOf
       going-end =
           record {
             count = sym (g .count ∙ ap (λ (l : List (List ℕ)). made + length l) none ∙ add-zero made);

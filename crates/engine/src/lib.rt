@@ -1,7 +1,8 @@
-// The engine for C and Rust: slices are a pointer and then a length, results one number (the crate packing says which).
-pub mod letter;
+// The engine for C and Rust: a slice is a pointer and a length, a result is one number (`results`).
+// order: results, step, run, lib
 pub mod results;
 pub mod run;
+pub mod step;
 
 ghost use mathlib.Core.Path.{_≡_};
 ghost use Rattle.spec_rack.specs.Opening.{openReply, openAfter};
@@ -33,10 +34,11 @@ pub extern "C" fn hyl_step(rec: &mut [u8], step: &[u8]) -> u64
     ensures reply { λ r. ⌜ r ≡ packedReply (stepReply (now (rec .entry)) (now (step .entry))) ⌝ }
     ensures buffer { λ r. ⌜ now (rec .exit) ≡ stepAfter (now (rec .entry)) (now (step .entry)) ⌝ }
 {
-    results::reply(engine_step::step(rec, step))
+    let sound = record_soundness::sound(rec);
+    step::step_result(rec, sound, step)
 }
 
-// Gives the records of a list from a place on; `at` goes to where the next run starts.
+// Gives the records of a list from `at` on; `at` becomes where the next run starts.
 #[no_mangle]
 pub extern "C" fn hyl_run(rec: &mut [u8], list: &[u8], at: &mut usize, replies: &mut [u64]) -> usize
     ensures { λ r. ⌜ RunResult (now (rec .entry)) (now (list .entry)) (now (at .entry)) (now (replies .entry)) r (now (rec .exit)) (now (at .exit)) (now (replies .exit)) ⌝ }
@@ -49,5 +51,5 @@ pub extern "C" fn hyl_run(rec: &mut [u8], list: &[u8], at: &mut usize, replies: 
 pub extern "C" fn hyl_letter(rec: &[u8], component: u32, block: u32) -> u64
     ensures { λ r. ⌜ r ≡ packedLetter (letterReply (now (rec .entry)) component block) ⌝ }
 {
-    results::lettered(letter::letter(rec, component, block))
+    results::lettered(engine_letter::letter(rec, component, block))
 }

@@ -1,2 +1,1 @@
 pub mod StepOnBytes
-pub mod AppliedStep

@@ -1,71 +1,55 @@
-// Steps on a sound record: each by the function of its kind. Send and forward have their checks and their changes in crates of their own.
+// A step on a record whose soundness is known, by the function of its kind.
 ghost use mathlib.Core.Path.{_≡_};
-ghost use Rattle.record.specs.Needs.{SoundRecord};
-ghost use Rattle.spec_rack.specs.Entries.{replyToStep, bufferAfter};
-use spec_rack::Answer;
+ghost use Rattle.spec_wire.specs.declared.Refusal.the-variants.{Unsound};
+ghost use Rattle.spec_rack.specs.declared.Reply.the-variants.{Refused};
+ghost use Rattle.spec_rack.specs.Rules.{reply};
+ghost use Rattle.spec_rack.specs.Entries.{outcome, bufferAfterOutcome};
+ghost use Rattle.spec_rack.specs.Soundness.{soundBytes};
 use spec_rack::Reply;
+use spec_wire::Reading;
+use spec_wire::Refusal;
 use spec_wire::Step;
+use wire_reader::body::Parsed;
 
-fn send(
-    rec: &mut [u8],
-    component: u8,
-    block: u8,
-    target: u8,
-    plain: u8,
-    owner: bool,
-    data: bool,
-) -> Reply
-    requires { ⌜ SoundRecord (now rec) ⌝ }
-    ensures reply { λ r. ⌜ r ≡ replyToStep (now (rec .entry)) (Step.Send component block target plain owner «data») ⌝ }
-    ensures buffer { λ r. ⌜ now (rec .exit) ≡ bufferAfter (now (rec .entry)) (Step.Send component block target plain owner «data») ⌝ }
+// The reply to a step on a record that is not sound.
+fn unsound() -> Reply
+    ensures { λ r. ⌜ r ≡ Refused Unsound ⌝ }
 {
-    let verdict = step_transfer::send_check::send_check(
-        rec,
-        component,
-        block,
-        target,
-        plain,
-        owner,
-        data,
-    );
-    if step_checks::checks::is_pass(verdict) { // a refused send takes no token
-        step_transfer::send::send_tokens(rec, component, block, target, plain, owner, data);
-        return Reply::Accepted(Answer::Done);
-    }
-    step_checks::checks::reply_of(verdict)
+    Reply::Refused(Refusal::Unsound)
 }
 
-fn forward(rec: &mut [u8], component: u8, block: u8) -> Reply
-    requires { ⌜ SoundRecord (now rec) ⌝ }
-    ensures reply { λ r. ⌜ r ≡ replyToStep (now (rec .entry)) (Step.Forward component block) ⌝ }
-    ensures buffer { λ r. ⌜ now (rec .exit) ≡ bufferAfter (now (rec .entry)) (Step.Forward component block) ⌝ }
+// A step, as it was parsed, on a record whose soundness is known: refused, with nothing changed, or made. Soundness is tested in each arm and not before
+// the match: so the compiler goes from the reader's arm of a kind straight to the arm here.
+pub fn apply(rec: &mut [u8], sound: bool, parsed: Parsed) -> Reply
+    requires { ⌜ sound ≡ soundBytes (now rec) ⌝ }
+    ensures reply { λ r. ⌜ r ≡ reply (outcome (Reading.Step (parsed .step)) (now (rec .entry))) ⌝ }
+    ensures buffer { λ r. ⌜ now (rec .exit) ≡ bufferAfterOutcome (now (rec .entry)) (outcome (Reading.Step (parsed .step)) (now (rec .entry))) ⌝ }
 {
-    let verdict = step_transfer::send_check::forward_check(rec, component, block);
-    if step_checks::checks::is_pass(verdict) {
-        step_transfer::send::forward_tokens(rec, component, block);
-        return Reply::Accepted(Answer::Done);
-    }
-    step_checks::checks::reply_of(verdict)
-}
-
-// A step on a sound record: refused, with nothing changed, or made.
-pub fn apply(rec: &mut [u8], step: Step) -> Reply
-    requires { ⌜ SoundRecord (now rec) ⌝ }
-    ensures reply { λ r. ⌜ r ≡ replyToStep (now (rec .entry)) step ⌝ }
-    ensures buffer { λ r. ⌜ now (rec .exit) ≡ bufferAfter (now (rec .entry)) step ⌝ }
-{
+    let step = parsed.step;
     match step {
         Step::Load {
             component,
             block,
             word,
-        } => step_access::load(rec, component, block, word),
+        } => {
+            if sound {
+                step_access::load(rec, component, block, word)
+            } else {
+                unsound()
+            }
+        }
         Step::Store {
             component,
             block,
             word,
             value,
-        } => step_access::store(rec, component, block, word, value),
+        } => {
+            if sound {
+                step_access::store(rec, component, block, word, value)
+            } else {
+                unsound()
+            }
+        }
         Step::Send {
             component,
             block,
@@ -73,10 +57,40 @@ pub fn apply(rec: &mut [u8], step: Step) -> Reply
             plain,
             owner,
             data,
-        } => send(rec, component, block, target, plain, owner, data),
-        Step::Deliver { position } => step_transfer::deliver::deliver(rec, position),
-        Step::Raise { component, block } => step_claims::raise(rec, component, block),
-        Step::Lower { component, block } => step_claims::lower(rec, component, block),
-        Step::Forward { component, block } => forward(rec, component, block),
+        } => {
+            if sound {
+                step_transfer::send::send(rec, component, block, target, plain, owner, data)
+            } else {
+                unsound()
+            }
+        }
+        Step::Deliver { position } => {
+            if sound {
+                step_transfer::deliver::deliver(rec, position)
+            } else {
+                unsound()
+            }
+        }
+        Step::Raise { component, block } => {
+            if sound {
+                step_claims::raise(rec, component, block)
+            } else {
+                unsound()
+            }
+        }
+        Step::Lower { component, block } => {
+            if sound {
+                step_claims::lower(rec, component, block)
+            } else {
+                unsound()
+            }
+        }
+        Step::Forward { component, block } => {
+            if sound {
+                step_transfer::forward::forward(rec, component, block)
+            } else {
+                unsound()
+            }
+        }
     }
 }

@@ -3,7 +3,7 @@ use Prim.Native.Nat.{ℕ, suc, _+_, _*_, _-_, _/_, _≤_, _<_, min}
 use native.Mathlib.Nat.{add-zero, zero-add}
 use native.Mathlib.Numerals.{add-one}
 use native.Mathlib.Omega.{arith}
-use mathlib.Core.Path.{_≡_, refl, sym, ap, _∙_}
+use mathlib.Core.Path.{_≡_, refl, sym, ap, _∙_, subst}
 use mathlib.Core.Bool.{cond}
 use mathlib.Core.List.{List, [], _∷_, _++_}
 use lib.ListN.{length, getD, take, drop, length-append, length-drop, length-take}
@@ -11,20 +11,23 @@ use lib.Seq.{drop-drop, drop-at, getD-take, take-add, take-all, length-take-le}
 use lib.Dec.{ltb}
 use borrow.Author.Tests.{lt-ltb, le-ltb}
 use native.Mathlib.Decide.{decLe}
+use Rattle.spec_base.specs.Number.{Bytes}
 use Rattle.spec_base.specs.Placing.{place}
 use Rattle.spec_base.proofs.Placing.{length-place, place-none, place-more, Placed, placed-more, placed-same}
 use Rattle.spec_wire.specs.declared.Refusal.the-variants.{Torn}
 use Rattle.spec_rack.specs.declared.Answer.{Answer}
 use Rattle.spec_rack.specs.declared.Reply.{Reply}
 use Rattle.spec_rack.specs.declared.Reply.the-variants.{Accepted, Refused}
-use Rattle.spec_rack.specs.Rackrun.{line}
+use Rattle.spec_rack.specs.Rackrun.{line, lines, stepLines, openingReply, openingAfter, stepsOffset, text, afterSteps, recordAfterRun}
 use Rattle.rackrun_text.proofs.LineLaws.{length-line}
 use Rattle.spec_rack.specs.Opening.{openReply, openAfter}
 use Rattle.spec_rack.specs.Entries.{stepReply, stepAfter}
 use Rattle.spec_wire.specs.Frames.{frameSize, frames}
-use Rattle.spec_rack.specs.Lists.{replies, after}
+use Rattle.spec_rack.specs.Lists.{runAll, repliesOf, replies, after}
 use Rattle.wire_reader.proofs.Framing.{cuts-first, cuts-none, span}
-use Rattle.spec_rack.specs.Rackrun.{lines, stepLines, openingReply, openingAfter, stepsOffset, text, afterSteps, recordAfterRun}
+use Rattle.spec_rack.specs.RecordLayout.{longestRecord}
+use Rattle.spec_rack.specs.RuledText.{ruledText}
+use Rattle.spec_rack.proofs.RuledText.{text-by-rules}
 
 -- ---- the steps' lines
 
@@ -37,19 +40,19 @@ unfolding lines
 lines-none i = refl
 
 replies-first : (s b : List ℕ) (bs : List (List ℕ)) → replies s (b ∷ bs) ≡ stepReply s b ∷ replies (stepAfter s b) bs
-unfolding replies
+unfolding repliesOf
 replies-first s b bs = refl
 
 after-first : (s b : List ℕ) (bs : List (List ℕ)) → after s (b ∷ bs) ≡ after (stepAfter s b) bs
-unfolding after
+unfolding runAll
 after-first s b bs = refl
 
 after-none : (s : List ℕ) → after s [] ≡ s
-unfolding after
+unfolding runAll
 after-none s = refl
 
 replies-none : (s : List ℕ) → replies s [] ≡ []
-unfolding replies
+unfolding repliesOf
 replies-none s = refl
 
 module _ (list : List ℕ) where
@@ -195,6 +198,16 @@ module _ (s input : List ℕ) where
 
 -- ---- the whole text
 
+-- what a run leaves: its text t placed at the front, and the record
+abbrev pub Reported : List ℕ → List ℕ → List ℕ → List ℕ → ℕ → List ℕ → List ℕ → Type 0
+Reported t s input out last out′ rec′ = ((last ≡ length t) × (out′ ≡ place 0 t out)) × (rec′ ≡ recordAfterRun s input)
+
+-- where the buffer had room for every record, the text is that of the rules
+pub reported-ruled : (s input out : List ℕ) (last : ℕ) (out′ rec′ : List ℕ) → Bytes s → longestRecord ≤ length s
+    → Reported (text s input) s input out last out′ rec′ → Reported (ruledText input) s input out last out′ rec′
+reported-ruled s input out last out′ rec′ bytes room =
+    subst (λ (t : List ℕ). Reported t s input out last out′ rec′) (text-by-rules s input bytes room)
+
 module _ (s input : List ℕ) (n : ℕ) (is : n ≡ min 65536 (length input)) where
   used-is : take n input ≡ take 65536 input
   used-is = by (decLe 65536 (length input))
@@ -249,7 +262,7 @@ module _ (s input : List ℕ) (n : ℕ) (is : n ≡ min 65536 (length input)) wh
 
       pub whole : rec ≡ openingAfter s input → (at last : ℕ) (out out₁ out₂ rec′ : List ℕ) → Placed 0 (line 0 r) out at out₁
           → Placed at (lines 1 (replies rec (frames 65536 steps))) out₁ last out₂ → rec′ ≡ after rec (frames 65536 steps)
-          → ((last ≡ length (text s input)) × (out₂ ≡ place 0 (text s input) out)) × (rec′ ≡ recordAfterRun s input)
+          → Reported (text s input) s input out last out₂ rec′
       unfolding text recordAfterRun
       whole eo at last out out₁ out₂ rec′ p q k =
           let g = given rec r er ef in

@@ -1,4 +1,5 @@
 // The text of a run, as the program rackrun writes it.
+// order: line, lib
 pub mod line;
 
 ghost use mathlib.Core.Path.{_≡_};
@@ -7,8 +8,11 @@ ghost use lib.ListN.{length, getD};
 ghost use Rattle.spec_base.specs.Placing.{place};
 ghost use Rattle.spec_wire.specs.Frames.{frames};
 ghost use Rattle.spec_rack.specs.Lists.{replies, after};
-ghost use Rattle.spec_rack.specs.Rackrun.{lines, openingReply, openingAfter, stepsOffset, text, recordAfterRun};
-use base::wide;
+ghost use Rattle.spec_rack.specs.Rackrun.{lines, openingReply, openingAfter, stepsOffset, recordAfterRun};
+ghost use Rattle.spec_rack.specs.RecordLayout.{longestRecord};
+ghost use Rattle.spec_rack.specs.RuledText.{ruledText};
+use base::wide_at;
+use spec_rack::LONGEST_RECORD;
 use spec_rack::Reply;
 use spec_wire::Refusal;
 
@@ -31,14 +35,6 @@ fn put_steps(rec: &mut [u8], list: &[u8], out: &mut [u8], at: usize) -> usize
     to
 }
 
-// The byte at a place.
-fn byte(input: &[u8], at: usize) -> u32
-    requires { ⌜ at < length (now input) ⌝ }
-    ensures { λ r. ⌜ r ≡ getD (now (input .entry)) at 0 ⌝ }
-{
-    wide(input[at])
-}
-
 // Opens a rack with the first three bytes of an input.
 fn open_from_input(rec: &mut [u8], input: &[u8]) -> Reply
     ensures reply { λ r. ⌜ r ≡ openingReply (now (rec .entry)) (now (input .entry)) ⌝ }
@@ -47,7 +43,7 @@ fn open_from_input(rec: &mut [u8], input: &[u8]) -> Reply
     if input.len() < 3 {
         return Reply::Refused(Refusal::Torn);
     }
-    record_open::open(rec, byte(input, 0), byte(input, 1), byte(input, 2))
+    record_open::open(rec, wide_at(input, 0), wide_at(input, 1), wide_at(input, 2))
 }
 
 // Where the steps start in an input of so many bytes: there are none where the opening was refused.
@@ -67,9 +63,11 @@ fn used_input(count: usize) -> usize
     if count < 65536 { count } else { 65536 }
 }
 
-// Places the text of an input, with the record in `rec`, where the run leaves it, and gives its length.
-pub fn report(input: &[u8], rec: &mut [u8; 21380], out: &mut [u8; 349536]) -> usize
-    ensures text { λ r. ⌜ (r ≡ length (text (now (rec .entry)) (now (input .entry)))) × (now (out .exit) ≡ place 0 (text (now (rec .entry)) (now (input .entry))) (now (out .entry))) ⌝ }
+// Places the text of an input, which the rules alone decide, and gives its length. The record is in `rec`, which has room for the longest, so that no
+// opening is refused for want of room.
+fn put_text(input: &[u8], rec: &mut [u8], out: &mut [u8; 349536]) -> usize
+    requires { ⌜ longestRecord ≤ length (now rec) ⌝ }
+    ensures text { λ r. ⌜ (r ≡ length (ruledText (now (input .entry)))) × (now (out .exit) ≡ place 0 (ruledText (now (input .entry))) (now (out .entry))) ⌝ }
     ensures buffer { λ r. ⌜ now (rec .exit) ≡ recordAfterRun (now (rec .entry)) (now (input .entry)) ⌝ }
 {
     let count = used_input(input.len());
@@ -77,4 +75,12 @@ pub fn report(input: &[u8], rec: &mut [u8; 21380], out: &mut [u8; 349536]) -> us
     let at = line::put_line(out, 0, 0, reply);
     let from = steps_offset(reply, count);
     put_steps(rec, &input[from..count], out, at)
+}
+
+// The text of an input, at the front of `out`, and its length. The record is in `rec`, where the run leaves it; its type says that there is room.
+pub fn report(input: &[u8], rec: &mut [u8; LONGEST_RECORD], out: &mut [u8; 349536]) -> usize
+    ensures text { λ r. ⌜ (r ≡ length (ruledText (now (input .entry)))) × (now (out .exit) ≡ place 0 (ruledText (now (input .entry))) (now (out .entry))) ⌝ }
+    ensures buffer { λ r. ⌜ now (rec .exit) ≡ recordAfterRun (now (rec .entry)) (now (input .entry)) ⌝ }
+{
+    put_text(input, rec, out)
 }

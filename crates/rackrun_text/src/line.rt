@@ -8,7 +8,7 @@ ghost use Rattle.spec_rack.specs.Rackrun.{digit, digits, decimal, replyText, li
 use spec_rack::Answer;
 use spec_rack::Reply;
 
-// What is said of a reply: a letter, and the lowest digits of a number.
+// The text of a reply: a letter, then the lowest digits of a number.
 struct ReplyText {
     letter: u8,
     base: u64,
@@ -40,7 +40,7 @@ fn width(n: u64) -> usize
     if n < 10000 { 4 } else { 5 }
 }
 
-// What is said of a reply. The `k` of `ok` is the digit 20.
+// The text of a reply. Trick: `ok` is the letter `o` and one digit in base 32; digit 20 prints as `k`.
 fn reply_text(reply: Reply) -> ReplyText
     ensures { λ r. ⌜ (replyText reply ≡ r .letter ∷ digits (r .base) (r .count) (r .n)) × (1 ≤ r .base) × (r .base ≤ 32) × (r .count ≤ 8) ⌝ }
 {
@@ -71,7 +71,7 @@ fn reply_text(reply: Reply) -> ReplyText
     }
 }
 
-// Places the lowest digits of a number from the last to the first, and a byte after them, and gives the place after that.
+// Places the lowest digits of a number from the last to the first, and a byte after them, and gives the offset behind it.
 fn put_digits(out: &mut [u8], at: usize, base: u64, count: usize, n: u64, end: u8) -> usize
     requires { ⌜ (at + count < length (now out)) × (1 ≤ base) × (base ≤ 32) ⌝ }
     ensures { λ r. ⌜ (r ≡ at + count + 1) × (now (out .exit) ≡ place at (digits base count n ++ end ∷ []) (now (out .entry))) ⌝ }

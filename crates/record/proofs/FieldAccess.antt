@@ -10,7 +10,7 @@ use lib.Dec.{eqb}
 use lib.ListN.{length, getD, set, take, drop, length-drop}
 use lib.Seq.{paste, paste-zero, paste-suc, length-paste-head, getD-append-add, getD-drop, take-suc, take-all, length-take-le, ext-getD}
 use Rattle.spec_base.specs.Number.{Bytes}
-use Rattle.spec_base.specs.Layout.{Layout, slice, modifyAt, big, readItems, writeItems}
+use Rattle.spec_base.specs.Layout.{slice, modifyAt, big, readItems, writeItems}
 use Rattle.spec_base.proofs.Parts.{length-part, part-part}
 use Rattle.spec_base.proofs.Laws.{big-lawful, items-keeps, length-readItems}
 use Rattle.spec_base.proofs.Places.{Place, item, over-in, item-looks}
@@ -19,7 +19,7 @@ use Rattle.spec_base.specs.Folds.{toℕ}
 use Rattle.spec_rack.specs.Rack.{cellAt}
 use Rattle.spec_rack.specs.Rules.{stored}
 use Rattle.record.specs.declared.TokenState.{TokenState}
-use Rattle.spec_rack.specs.RecordLayout.{blockOffset, ownerOffset, validOffset, wordsOffset, wordsSize, Tokens, words, get, put}
+use Rattle.spec_rack.specs.RecordLayout.{blockOffset, ownerOffset, validOffset, wordsOffset, wordsSize, Tokens, words, get, put, messageSize}
 use Rattle.record.specs.Needs.{InLayout, CellInRecord}
 use Rattle.record.specs.Changes.{TokenStateOf, withTokenState, newCell, replaceCell}
 use Rattle.spec_rack.proofs.GetPut.{Formed, formed-of}
@@ -102,31 +102,31 @@ module _ (s : List ℕ) (at : ℕ) (ws : List ℕ) (e : length ws ≡ 8) (l : at
 
 -- i bytes copied from 40 places further on
 abbrev pub moved : List ℕ → ℕ → ℕ → List ℕ
-moved s at i = modifyAt at i (λ t. slice (at + 40) i s) s
+moved s at i = modifyAt at i (λ t. slice (at + messageSize) i s) s
 
-moved-paste : (s : List ℕ) (at i : ℕ) → moved s at i ≡ paste s at (drop (at + 40) s) i
-moved-paste s at i = sym (append-assoc (take at s) (take i (drop (at + 40) s)) (drop (at + i) s))
+moved-paste : (s : List ℕ) (at i : ℕ) → moved s at i ≡ paste s at (drop (at + messageSize) s) i
+moved-paste s at i = sym (append-assoc (take at s) (take i (drop (at + messageSize) s)) (drop (at + i) s))
 
 module _ (s : List ℕ) (at : ℕ) where
   pub moved-none : s ≡ moved s at 0
-  moved-none = paste-zero s at (drop (at + 40) s) ∙ sym (moved-paste s at 0)
+  moved-none = paste-zero s at (drop (at + messageSize) s) ∙ sym (moved-paste s at 0)
 
-  module _ (i : ℕ) (l : at + 40 + i < length s) where
+  module _ (i : ℕ) (l : at + messageSize + i < length s) where
     -- what is still to be copied is as it was
-    moved-reads : getD (moved s at i) (at + 40 + i) 0 ≡ getD s (at + 40 + i) 0
+    moved-reads : getD (moved s at i) (at + messageSize + i) 0 ≡ getD s (at + messageSize + i) 0
     moved-reads =
-        let p : List ℕ = take at s ++ take i (drop (at + 40) s) in
-        let lp : length p ≡ at + i = length-paste-head s at (drop (at + 40) s) i (omega arith) (simp length-drop (omega arith)) in
-        ap (λ (t : List ℕ). getD t (at + 40 + i) 0) (moved-paste s at i)
-        ∙ ap (λ (n : ℕ). getD (p ++ drop (at + i) s) n 0) (let e : at + 40 + i ≡ length p + 40 = omega arith in e)
-        ∙ getD-append-add p (drop (at + i) s) 40 0
-        ∙ getD-drop (at + i) s 40 0
-        ∙ ap (λ (n : ℕ). getD s n 0) (let e : at + i + 40 ≡ at + 40 + i = omega arith in e)
+        let p : List ℕ = take at s ++ take i (drop (at + messageSize) s) in
+        let lp : length p ≡ at + i = length-paste-head s at (drop (at + messageSize) s) i (omega arith) (simp length-drop (omega arith)) in
+        ap (λ (t : List ℕ). getD t (at + messageSize + i) 0) (moved-paste s at i)
+        ∙ ap (λ (n : ℕ). getD (p ++ drop (at + i) s) n 0) (let e : at + messageSize + i ≡ length p + messageSize = omega arith in e)
+        ∙ getD-append-add p (drop (at + i) s) messageSize 0
+        ∙ getD-drop (at + i) s messageSize 0
+        ∙ ap (λ (n : ℕ). getD s n 0) (let e : at + i + messageSize ≡ at + messageSize + i = omega arith in e)
 
-    pub moved-more : set (moved s at i) (at + i) (getD (moved s at i) (at + 40 + i) 0) ≡ moved s at (i + 1)
+    pub moved-more : set (moved s at i) (at + i) (getD (moved s at i) (at + messageSize + i) 0) ≡ moved s at (i + 1)
     moved-more =
-        ap (set (moved s at i) (at + i)) (moved-reads ∙ sym (getD-drop (at + 40) s i 0))
-        ∙ ap (λ (t : List ℕ). set t (at + i) (getD (drop (at + 40) s) i 0)) (moved-paste s at i)
-        ∙ paste-suc s at (drop (at + 40) s) i 0 (omega arith) (simp length-drop (omega arith))
+        ap (set (moved s at i) (at + i)) (moved-reads ∙ sym (getD-drop (at + messageSize) s i 0))
+        ∙ ap (λ (t : List ℕ). set t (at + i) (getD (drop (at + messageSize) s) i 0)) (moved-paste s at i)
+        ∙ paste-suc s at (drop (at + messageSize) s) i 0 (omega arith) (simp length-drop (omega arith))
         ∙ sym (moved-paste s at (suc i))
         ∙ ap (moved s at) (sym (add-one i))

@@ -14,8 +14,7 @@ use Rattle.spec_base.proofs.Folds.{below-of, below-same}
 use Rattle.spec_base.specs.Layout.{slice, byte, flag, big, pair, items, wellFormedItems, zeroed}
 use Rattle.spec_base.proofs.Laws.{length-readItems}
 use Rattle.spec_base.proofs.Places.{read-byte, read-pair, formed-below}
-use Rattle.spec_rack.specs.RecordLayout.{claims}
-use Rattle.spec_rack.specs.RecordLayout.{messageSize, messageOffset, blockSize, blockOffset, claimsOffset, tokens, words, endpoints, messageHeader, toMessage, message, tokenLanes, block, header, rackLayout, layoutOf}
+use Rattle.spec_rack.specs.RecordLayout.{claims, messageSize, messageOffset, blockSize, blockOffset, claimsOffset, tokens, words, endpoints, messageHeader, toMessage, message, tokenLanes, block, header, rackLayout, layoutOf, blocksIn, boardsIn, claimsRoom, claimsSize, lanesSize, messagesIn, meshRoom, headerSize}
 use Rattle.spec_rack.proofs.LayoutParts.{heading-size, words-size, message-size, lanes-size, claims-size, block-size, header-size, blockTokens, blockClaims, blockWords}
 use Rattle.record.proofs.FieldOffsets.{header-formed}
 use Rattle.spec_base.proofs.Padded.{formed-room, formed-zeroed, padded-read}
@@ -66,7 +65,7 @@ module _ (s : List ℕ) (at : ℕ) where
             ))) i,
       ))
 
-  pub message-read : message .read (slice at 40 s)
+  pub message-read : message .read (slice at messageSize s)
       ≡ record {
         sender = getD s at 0;
         target = getD s (at + 1) 0;
@@ -85,7 +84,7 @@ module _ (s : List ℕ) (at : ℕ) where
       ∙ (λ i. (heading-read i, words .read (slice (at + 8) 32 s))))
 
   -- the owner's mark and data are state, and the two bytes behind them are 0
-  pub message-formed : message .wellFormed (slice at 40 s) ≡ ((ltb (getD s (at + 4) 0) 2 && ltb (getD s (at + 5) 0) 2) && allBelow 2 (λ i. eqb (getD s (at + 6 + i) 0) 0))
+  pub message-formed : message .wellFormed (slice at messageSize s) ≡ ((ltb (getD s (at + 4) 0) 2 && ltb (getD s (at + 5) 0) 2) && allBelow 2 (λ i. eqb (getD s (at + 6 + i) 0) 0))
   unfolding message messageHeader words
   message-formed =
       formed-pair messageHeader words at s
@@ -108,32 +107,32 @@ unfolding words
 words-formed t = formed-below (big 4) 8 t ∙ below-of (λ i. true) 8 (λ i l. refl)
 
 module _ (s : List ℕ) where
-  pub block-formed : (n at : ℕ) → n ≤ 15 → block n .wellFormed (slice at 632 s) ≡ (tokenLanes n .wellFormed (slice at 48 s) && claims n .wellFormed (slice (at + claimsOffset) 34 s))
+  pub block-formed : (n at : ℕ) → n ≤ 15 → block n .wellFormed (slice at blockSize s) ≡ (tokenLanes n .wellFormed (slice at lanesSize s) && claims n .wellFormed (slice (at + claimsOffset) claimsSize s))
   unfolding block
   block-formed n at h =
       ap (λ (z : ℕ). block n .wellFormed (slice at z s)) (sym (block-size n))
       ∙ formed-pair (blockTokens n) (pair (blockClaims n) (blockWords n)) at s
       ∙ (λ i.
-      (formed-room 80 (tokenLanes n) (rw (lanes-size n) (omega arith)) at s ∙ ap (λ (z : ℕ). tokenLanes n .wellFormed (slice at z s)) (lanes-size n)) i
-      && (formed-pair (blockClaims n) (blockWords n) (at + 80) s
-      ∙ (λ j. blockClaims n .wellFormed (slice (at + 80) 40 s) && all-words n (slice (at + 80 + 40) (16 * words .size) s) j)
-      ∙ and-true (blockClaims n .wellFormed (slice (at + 80) 40 s))
-      ∙ formed-room 40 (claims n) (rw (claims-size n) (omega arith)) (at + 80) s ∙ ap (λ (z : ℕ). claims n .wellFormed (slice (at + 80) z s)) (claims-size n)) i)
+      (formed-room claimsOffset (tokenLanes n) (rw (lanes-size n) (omega arith)) at s ∙ ap (λ (z : ℕ). tokenLanes n .wellFormed (slice at z s)) (lanes-size n)) i
+      && (formed-pair (blockClaims n) (blockWords n) (at + claimsOffset) s
+      ∙ (λ j. blockClaims n .wellFormed (slice (at + claimsOffset) claimsRoom s) && all-words n (slice (at + claimsOffset + claimsRoom) (16 * words .size) s) j)
+      ∙ and-true (blockClaims n .wellFormed (slice (at + claimsOffset) claimsRoom s))
+      ∙ formed-room claimsRoom (claims n) (rw (claims-size n) (omega arith)) (at + claimsOffset) s ∙ ap (λ (z : ℕ). claims n .wellFormed (slice (at + claimsOffset) z s)) (claims-size n)) i)
     where
       all-words : (k : ℕ) (t : List ℕ) → wellFormedItems words (suc k) t ≡ true
       all-words k t = formed-below words (suc k) t ∙ below-of (λ i. words .wellFormed (slice (i * words .size) (words .size) t)) (suc k) (λ i l. words-formed (slice (i * words .size) (words .size) t))
 
-  pub record-formed : getD s 3 0 ≤ 64
+  pub record-formed : messagesIn s ≤ 64
       → layoutOf s .wellFormed s
-      ≡ (allBelow (getD s 3 0) (λ i. message .wellFormed (slice (messageOffset i) messageSize s)) && allBelow (getD s 1 0) (λ b. block (getD s 0 0) .wellFormed (slice (blockOffset b) blockSize s)))
+      ≡ (allBelow (messagesIn s) (λ i. message .wellFormed (slice (messageOffset i) messageSize s)) && allBelow (blocksIn s) (λ b. block (boardsIn s) .wellFormed (slice (blockOffset b) blockSize s)))
   unfolding rackLayout
   record-formed hm =
-      let n : ℕ = getD s 0 0 in
-      let b : ℕ = getD s 1 0 in
-      let m : ℕ = getD s 3 0 in
-      (λ i. header-formed (take (header .size) s) i && pair (items message 64 m) (items (block n) b b) .wellFormed (slice (header-size i) (64 * message .size + b * block n .size) s))
-      ∙ formed-pair (items message 64 m) (items (block n) b b) 32 s
+      let n : ℕ = boardsIn s in
+      let b : ℕ = blocksIn s in
+      let m : ℕ = messagesIn s in
+      (λ i. header-formed (take (header .size) s) i && pair (items message meshRoom m) (items (block n) b b) .wellFormed (slice (header-size i) (meshRoom * message .size + b * block n .size) s))
+      ∙ formed-pair (items message meshRoom m) (items (block n) b b) headerSize s
       ∙ (λ i.
-      formed-items message 40 message-size 64 m 32 s hm i
-      && (formed-items (block n) 632 (block-size n) b b (32 + 64 * message .size) s (le-refl b)
-      ∙ (λ j. allBelow b (λ k. block n .wellFormed (slice (32 + 64 * message-size j + 632 * k) 632 s)))) i)
+      formed-items message messageSize message-size meshRoom m headerSize s hm i
+      && (formed-items (block n) blockSize (block-size n) b b (headerSize + meshRoom * message .size) s (le-refl b)
+      ∙ (λ j. allBelow b (λ k. block n .wellFormed (slice (headerSize + meshRoom * message-size j + blockSize * k) blockSize s)))) i)

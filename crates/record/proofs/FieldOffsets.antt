@@ -17,11 +17,10 @@ use Rattle.spec_base.proofs.Places.{Place, within, item, over-in}
 use Rattle.spec_base.proofs.Lanes.{over-three}
 use Rattle.spec_base.proofs.Copies.{items-more, items-removed}
 use Rattle.spec_rack.specs.Claims.{Claims}
-use Rattle.spec_rack.specs.RecordLayout.{claims}
+use Rattle.spec_rack.specs.RecordLayout.{claims, blockOffset, ownerOffset, validOffset, claimsOffset, wordsOffset, wordsSize, Tokens, words, toCell, cellTokens, message, block, header, rackLayout, layoutOf, get, put, blockSize, blocksIn, boardsIn, claimsSize, meshSize, messageOffset, messageSize, messagesIn, tokensIn, headerSize, meshRoom}
 use Rattle.spec_rack.specs.declared.Message.{Message}
 use Rattle.spec_rack.specs.Rack.{Block, noCell, noBlock, noMessage, blockAt, cellAt, claimsAt, messageAt}
 use Rattle.spec_rack.specs.Rules.{withClaims}
-use Rattle.spec_rack.specs.RecordLayout.{blockOffset, ownerOffset, validOffset, claimsOffset, wordsOffset, wordsSize, Tokens, words, toCell, cellTokens, message, block, header, rackLayout, layoutOf, get, put}
 use Rattle.record.specs.Changes.{withMesh, replaceCell}
 use Rattle.spec_rack.proofs.LayoutParts.{BlockFits, words-size, claims-size, message-size, header-size, message-lawful, message-full, header-lawful}
 use Rattle.spec_rack.proofs.GetPut.{count-write, mesh-place, claims-place, words-place, withWords, tokens-spread, cell-spread, Formed, law, boards-is, blocks-is, tokens-is, mesh-is, stands, read-figure, write-figure, stands-figure, read-spread, write-spread}
@@ -38,11 +37,11 @@ part-at p n i s l = getD-take n (drop p s) i 0 l ∙ getD-drop p s i 0
 module _ (s : List ℕ) (ok : Formed s) where
   -- ---- what a component has of a block: `at` is the place of its plain count
 
-  module _ (b c : ℕ) (hb : b < getD s 1 0) (hc : c ≤ getD s 0 0) (at : ℕ) (e : at ≡ blockOffset b + c) where
+  module _ (b c : ℕ) (hb : b < blocksIn s) (hc : c ≤ boardsIn s) (at : ℕ) (e : at ≡ blockOffset b + c) where
     known : c ≤ 15
     known = omega (arith, ok .boards)
 
-    inside : blockOffset b + 632 ≤ length s
+    inside : blockOffset b + blockSize ≤ length s
     inside = omega (arith, ok .room)
 
     owner-there : blockOffset b + (16 + c) ≡ at + ownerOffset
@@ -55,51 +54,51 @@ module _ (s : List ℕ) (ok : Formed s) where
     abbrev three : Tokens → List ℕ → List ℕ
     three v t = set (set (set t c (v .0)) (16 + c) (toℕ (v .1 .0))) (32 + c) (toℕ (v .1 .1))
 
-    three-there : (v : Tokens) → modifyAt (blockOffset b) 632 (three v) s ≡ set (set (set s at (v .0)) (at + ownerOffset) (toℕ (v .1 .0))) (at + validOffset) (toℕ (v .1 .1))
+    three-there : (v : Tokens) → modifyAt (blockOffset b) blockSize (three v) s ≡ set (set (set s at (v .0)) (at + ownerOffset) (toℕ (v .1 .0))) (at + validOffset) (toℕ (v .1 .1))
     three-there v =
-        over-three (blockOffset b) 632 s inside c (16 + c) (32 + c) (v .0) (toℕ (v .1 .0)) (toℕ (v .1 .1)) (omega (arith, known)) (omega (arith, known)) (omega (arith, known))
+        over-three (blockOffset b) blockSize s inside c (16 + c) (32 + c) (v .0) (toℕ (v .1 .0)) (toℕ (v .1 .1)) (omega (arith, known)) (omega (arith, known)) (omega (arith, known))
         ∙ (λ i. set (set (set s (sym e i) (v .0)) (owner-there i) (toℕ (v .1 .0))) (valid-there i) (toℕ (v .1 .1)))
 
     pub tokens-at : cellTokens (cellAt (get s) b c) ≡ (getD s at 0, (eqb (getD s (at + ownerOffset) 0) 1, eqb (getD s (at + validOffset) 0) 1))
     tokens-at =
-        read-spread s ok (tokens-spread (getD s 0 0) (ok .boards) c hc) b hb
+        read-spread s ok (tokens-spread (boardsIn s) (ok .boards) c hc) b hb
         ∙ (λ i. (
-          part-at (blockOffset b) 632 c s (omega (arith, known)) i,
-          (eqb (part-at (blockOffset b) 632 (16 + c) s (omega (arith, known)) i) 1, eqb (part-at (blockOffset b) 632 (32 + c) s (omega (arith, known)) i) 1),
+          part-at (blockOffset b) blockSize c s (omega (arith, known)) i,
+          (eqb (part-at (blockOffset b) blockSize (16 + c) s (omega (arith, known)) i) 1, eqb (part-at (blockOffset b) blockSize (32 + c) s (omega (arith, known)) i) 1),
         ))
         ∙ (λ i. (getD s (sym e i) 0, (eqb (getD s (owner-there i) 0) 1, eqb (getD s (valid-there i) 0) 1)))
 
     -- other tokens change three bytes
     pub tokens-put : (v : Tokens) → put (replaceCell (get s) b c (toCell (v, cellAt (get s) b c .words))) s
         ≡ set (set (set s at (v .0)) (at + ownerOffset) (toℕ (v .1 .0))) (at + validOffset) (toℕ (v .1 .1))
-    tokens-put v = write-spread s ok (tokens-spread (getD s 0 0) (ok .boards) c hc) b hb v ∙ three-there v
+    tokens-put v = write-spread s ok (tokens-spread (boardsIn s) (ok .boards) c hc) b hb v ∙ three-there v
 
     -- other tokens and words change those and 32 bytes
     pub cell-put : (v : Tokens) (ws : List ℕ) → put (replaceCell (get s) b c (toCell (v, ws))) s
         ≡ modifyAt (blockOffset b + (wordsOffset + wordsSize * c)) 32 (words .write ws) (set (set (set s at (v .0)) (at + ownerOffset) (toℕ (v .1 .0))) (at + validOffset) (toℕ (v .1 .1)))
     cell-put v ws =
-        write-spread s ok (cell-spread (getD s 0 0) (ok .boards) c hc) b hb (v, ws)
-        ∙ sym (over-in (words .write ws) (three v) (blockOffset b) 632 (120 + 32 * c) 32 s (simp length-set) inside (omega (arith, known)))
-        ∙ ap (modifyAt (blockOffset b + (120 + 32 * c)) 32 (words .write ws)) (three-there v)
+        write-spread s ok (cell-spread (boardsIn s) (ok .boards) c hc) b hb (v, ws)
+        ∙ sym (over-in (words .write ws) (three v) (blockOffset b) blockSize (wordsOffset + 32 * c) 32 s (simp length-set) inside (omega (arith, known)))
+        ∙ ap (modifyAt (blockOffset b + (wordsOffset + 32 * c)) 32 (words .write ws)) (three-there v)
 
   -- as many cells as components
-  pub cells-many : (b : ℕ) → b < getD s 1 0 → length (blockAt (get s) b .cells) ≡ suc (getD s 0 0)
+  pub cells-many : (b : ℕ) → b < blocksIn s → length (blockAt (get s) b .cells) ≡ suc (boardsIn s)
   unfolding get
   cells-many b hb =
-      all-at (BlockFits (getD s 0 0)) (get s .blocks) (law s ok .holds s (ok .bytes) .1 .1 .1) b noBlock (omega (arith, blocks-is s)) .0 .0
+      all-at (BlockFits (boardsIn s)) (get s .blocks) (law s ok .holds s (ok .bytes) .1 .1 .1) b noBlock (omega (arith, blocks-is s)) .0 .0
 
   -- ---- the words of a component, and one of them
 
-  module _ (b c : ℕ) (hb : b < getD s 1 0) (hc : c ≤ getD s 0 0) where
+  module _ (b c : ℕ) (hb : b < blocksIn s) (hc : c ≤ boardsIn s) where
     pub words-at : (at : ℕ) → at ≡ blockOffset b + wordsOffset + wordsSize * c → cellAt (get s) b c .words ≡ words .read (slice at 32 s)
     words-at at e =
-        read-figure s ok (words-place (getD s 0 0) (ok .boards) c hc) b hb
+        read-figure s ok (words-place (boardsIn s) (ok .boards) c hc) b hb
         ∙ (λ i. words .read (slice (let q : blockOffset b + (wordsOffset + wordsSize * c) ≡ at = omega arith in q i) (words-size i) s))
 
     -- a part of them
     module _ {A : Type 0} {M : Layout A} {p : ℕ} {look : List ℕ → A} {change : A → List ℕ → List ℕ} (P : Place words M p look change) (at : ℕ) (e : at ≡ blockOffset b + wordsOffset + wordsSize * c + p) where
-      there : Place (block (getD s 0 0)) M (wordsOffset + wordsSize * c + p) (λ k. look (getD (k .cells) c noCell .words)) (λ v k. withWords c (change v (getD (k .cells) c noCell .words)) k)
-      there = within (words-place (getD s 0 0) (ok .boards) c hc) P
+      there : Place (block (boardsIn s)) M (wordsOffset + wordsSize * c + p) (λ k. look (getD (k .cells) c noCell .words)) (λ v k. withWords c (change v (getD (k .cells) c noCell .words)) k)
+      there = within (words-place (boardsIn s) (ok .boards) c hc) P
 
       pub read-words : M .read (slice at (M .size) s) ≡ look (cellAt (get s) b c .words)
       read-words =
@@ -113,54 +112,54 @@ module _ (s : List ℕ) (ok : Formed s) where
 
   -- ---- the claims on a block
 
-  module _ (b : ℕ) (hb : b < getD s 1 0) where
-    pub claims-at : claimsAt (get s) b ≡ claims (getD s 0 0) .read (slice (blockOffset b + claimsOffset) 34 s)
+  module _ (b : ℕ) (hb : b < blocksIn s) where
+    pub claims-at : claimsAt (get s) b ≡ claims (boardsIn s) .read (slice (blockOffset b + claimsOffset) claimsSize s)
     claims-at =
-        read-figure s ok (claims-place (getD s 0 0) (ok .boards)) b hb
-        ∙ ap (λ (k : ℕ). claims (getD s 0 0) .read (slice (blockOffset b + 80) k s)) (claims-size (getD s 0 0))
+        read-figure s ok (claims-place (boardsIn s) (ok .boards)) b hb
+        ∙ ap (λ (k : ℕ). claims (boardsIn s) .read (slice (blockOffset b + claimsOffset) k s)) (claims-size (boardsIn s))
 
-    pub claims-stand : Stands (claims (getD s 0 0)) (slice (blockOffset b + claimsOffset) 34 s)
+    pub claims-stand : Stands (claims (boardsIn s)) (slice (blockOffset b + claimsOffset) claimsSize s)
     claims-stand =
-        subst (λ (k : ℕ). Stands (claims (getD s 0 0)) (slice (blockOffset b + 80) k s)) (claims-size (getD s 0 0))
-        (stands-figure s ok (claims-place (getD s 0 0) (ok .boards)) b hb)
+        subst (λ (k : ℕ). Stands (claims (boardsIn s)) (slice (blockOffset b + claimsOffset) k s)) (claims-size (boardsIn s))
+        (stands-figure s ok (claims-place (boardsIn s) (ok .boards)) b hb)
 
-    pub claims-put : (k : Claims) → put (withClaims (get s) b k) s ≡ modifyAt (blockOffset b + claimsOffset) 34 (claims (getD s 0 0) .write k) s
+    pub claims-put : (k : Claims) → put (withClaims (get s) b k) s ≡ modifyAt (blockOffset b + claimsOffset) claimsSize (claims (boardsIn s) .write k) s
     claims-put k =
-        write-figure s ok (claims-place (getD s 0 0) (ok .boards)) b hb k
-        ∙ ap (λ (z : ℕ). modifyAt (blockOffset b + 80) z (claims (getD s 0 0) .write k) s) (claims-size (getD s 0 0))
+        write-figure s ok (claims-place (boardsIn s) (ok .boards)) b hb k
+        ∙ ap (λ (z : ℕ). modifyAt (blockOffset b + claimsOffset) z (claims (boardsIn s) .write k) s) (claims-size (boardsIn s))
 
   -- ---- the mesh
 
   -- room for the messages behind the header
-  place : Place (layoutOf s) (items message 64 (getD s 3 0)) 32 (λ v. v .1 .0) (λ x v. (v .0, (x, v .1 .1)))
-  place = mesh-place (getD s 0 0) (getD s 1 0) (getD s 3 0) (ok .boards) (ok .messages)
+  place : Place (layoutOf s) (items message meshRoom (messagesIn s)) headerSize (λ v. v .1 .0) (λ x v. (v .0, (x, v .1 .1)))
+  place = mesh-place (boardsIn s) (blocksIn s) (messagesIn s) (ok .boards) (ok .messages)
 
   slots : List ℕ
-  slots = slice 32 (64 * message .size) s
+  slots = slice headerSize (meshRoom * message .size) s
 
-  pub mesh-items : get s .mesh ≡ readItems message (getD s 3 0) (slice 32 (64 * message .size) s)
+  pub mesh-items : get s .mesh ≡ readItems message (messagesIn s) (slice headerSize (meshRoom * message .size) s)
   unfolding get
   mesh-items = place .looks s
 
-  pub mesh-stands : StandItems message (getD s 3 0) (slice 32 (64 * message .size) s)
-  mesh-stands = stand-items message 64 (getD s 3 0) (slice 32 (64 * message .size) s) (ok .messages) (place .stands s (stands s ok))
+  pub mesh-stands : StandItems message (messagesIn s) (slice headerSize (meshRoom * message .size) s)
+  mesh-stands = stand-items message meshRoom (messagesIn s) (slice headerSize (meshRoom * message .size) s) (ok .messages) (place .stands s (stands s ok))
 
-  pub message-at : (i : ℕ) → i < getD s 3 0 → messageAt (get s) i ≡ message .read (slice (32 + 40 * i) 40 s)
+  pub message-at : (i : ℕ) → i < messagesIn s → messageAt (get s) i ≡ message .read (slice (messageOffset i) messageSize s)
   message-at i h =
       ap (λ (l : List Message). getD l i noMessage) mesh-items
-      ∙ item message message-lawful noMessage 64 (getD s 3 0) i (ok .messages) h .looks (slice 32 (64 * message .size) s)
+      ∙ item message message-lawful noMessage meshRoom (messagesIn s) i (ok .messages) h .looks (slice headerSize (meshRoom * message .size) s)
       ∙ ap (message .read)
-      (part-part 32 (64 * message .size) (i * message .size) (message .size) s (item message message-lawful noMessage 64 (getD s 3 0) i (ok .messages) h .inside)
-      ∙ ap (λ (k : ℕ). slice (32 + i * k) k s) message-size
-      ∙ ap (λ (k : ℕ). slice k 40 s) (let e : 32 + i * 40 ≡ 32 + 40 * i = omega arith in e))
+      (part-part headerSize (meshRoom * message .size) (i * message .size) (message .size) s (item message message-lawful noMessage meshRoom (messagesIn s) i (ok .messages) h .inside)
+      ∙ ap (λ (k : ℕ). slice (headerSize + i * k) k s) message-size
+      ∙ ap (λ (k : ℕ). slice k messageSize s) (let e : headerSize + i * messageSize ≡ messageOffset i = omega arith in e))
 
-  pub message-stands : (i : ℕ) → i < getD s 3 0 → Stands message (slice (32 + 40 * i) 40 s)
+  pub message-stands : (i : ℕ) → i < messagesIn s → Stands message (slice (messageOffset i) messageSize s)
   message-stands i h =
       subst (Stands message)
-      (part-part 32 (64 * message .size) (i * message .size) (message .size) s (item message message-lawful noMessage 64 (getD s 3 0) i (ok .messages) h .inside)
-      ∙ ap (λ (k : ℕ). slice (32 + i * k) k s) message-size
-      ∙ ap (λ (k : ℕ). slice k 40 s) (let e : 32 + i * 40 ≡ 32 + 40 * i = omega arith in e))
-      (item message message-lawful noMessage 64 (getD s 3 0) i (ok .messages) h .stands (slice 32 (64 * message .size) s) (place .stands s (stands s ok)))
+      (part-part headerSize (meshRoom * message .size) (i * message .size) (message .size) s (item message message-lawful noMessage meshRoom (messagesIn s) i (ok .messages) h .inside)
+      ∙ ap (λ (k : ℕ). slice (headerSize + i * k) k s) message-size
+      ∙ ap (λ (k : ℕ). slice k messageSize s) (let e : headerSize + i * messageSize ≡ messageOffset i = omega arith in e))
+      (item message message-lawful noMessage meshRoom (messagesIn s) i (ok .messages) h .stands (slice headerSize (meshRoom * message .size) s) (place .stands s (stands s ok)))
 
 removed-length : {A : Type 0} (p : ℕ) (xs : List A) (n : ℕ) → length xs ≡ suc n → p ≤ n → length (removeAt xs p) ≡ n
 removed-length p [] n e h = absurd (omega arith)
@@ -169,22 +168,22 @@ removed-length (suc p) (x ∷ xs) zero e h = absurd (not-suc-le-zero h)
 removed-length (suc p) (x ∷ xs) (suc n) e h = ap suc (removed-length p xs n (omega arith) (le-of-suc-le-suc h))
 
 module _ (s : List ℕ) (ok : Formed s) where
-  long : 32 ≤ length s
+  long : headerSize ≤ length s
   long = omega (arith, ok .room)
 
   -- with the count that it has
-  same-count : (l : List Message) → layoutOf s .write (layoutOf s .read s .0, (l, layoutOf s .read s .1 .1)) s ≡ modifyAt 32 (64 * message .size) (writeItems message l) s
+  same-count : (l : List Message) → layoutOf s .write (layoutOf s .read s .0, (l, layoutOf s .read s .1 .1)) s ≡ modifyAt headerSize (meshRoom * message .size) (writeItems message l) s
   same-count l = place s ok .changes l s (stands s ok)
 
-  mesh-write : (l : List Message) → put (withMesh (get s) l) s ≡ layoutOf s .write ((getD s 0 0, (getD s 1 0, (getD s 2 0, length l))), (l, layoutOf s .read s .1 .1)) s
+  mesh-write : (l : List Message) → put (withMesh (get s) l) s ≡ layoutOf s .write ((boardsIn s, (blocksIn s, (tokensIn s, length l))), (l, layoutOf s .read s .1 .1)) s
   unfolding put get rackLayout
   mesh-write l = λ i.
-      rackLayout (boards-is s i) (blocks-is s i) (getD s 3 0) .write ((boards-is s i, (blocks-is s i, (tokens-is s i, length l))), (l, layoutOf s .read s .1 .1)) s
+      rackLayout (boards-is s i) (blocks-is s i) (messagesIn s) .write ((boards-is s i, (blocks-is s i, (tokens-is s i, length l))), (l, layoutOf s .read s .1 .1)) s
 
-  mesh-changes : (l : List Message) → put (withMesh (get s) l) s ≡ set (modifyAt 32 (64 * message .size) (writeItems message l) s) 3 (length l)
+  mesh-changes : (l : List Message) → put (withMesh (get s) l) s ≡ set (modifyAt headerSize (meshRoom * message .size) (writeItems message l) s) 3 (length l)
   unfolding rackLayout
   mesh-changes l =
-      let rest : Layout (List Message × List Block) = pair (items message 64 (getD s 3 0)) (items (block (getD s 0 0)) (getD s 1 0) (getD s 1 0)) in
+      let rest : Layout (List Message × List Block) = pair (items message meshRoom (messagesIn s)) (items (block (boardsIn s)) (blocksIn s) (blocksIn s)) in
       let k : ℕ = header .size in
       let lk : length (take k s) ≡ k = length-take-le k s (omega (arith, long, header-size)) in
       let x : List ℕ = rest .write (l, layoutOf s .read s .1 .1) (slice k (rest .size) s) ++ drop (k + rest .size) s in
@@ -196,60 +195,60 @@ module _ (s : List ℕ) (ok : Formed s) where
       (sym (header-lawful .unchanged (take k s) (record { bytes = bytes-take k s (ok .bytes); wellFormed = header-formed (take k s); room = le-of-eq (sym lk) })))
       ∙ same-count l)
 
-  mesh-unchanged : writeItems message (get s .mesh) (slice 32 (64 * message .size) s) ≡ slice 32 (64 * message .size) s
+  mesh-unchanged : writeItems message (get s .mesh) (slice headerSize (meshRoom * message .size) s) ≡ slice headerSize (meshRoom * message .size) s
   mesh-unchanged =
-      ap (λ (l : List Message). writeItems message l (slice 32 (64 * message .size) s)) (mesh-items s ok)
-      ∙ items-unchanged message message-lawful (getD s 3 0) (slice 32 (64 * message .size) s) (mesh-stands s ok)
+      ap (λ (l : List Message). writeItems message l (slice headerSize (meshRoom * message .size) s)) (mesh-items s ok)
+      ∙ items-unchanged message message-lawful (messagesIn s) (slice headerSize (meshRoom * message .size) s) (mesh-stands s ok)
 
-  slots-length : length (slice 32 (64 * message .size) s) ≡ 64 * message .size
-  slots-length = length-part 32 (64 * message .size) s (rw message-size (omega (arith, ok .room)))
+  slots-length : length (slice headerSize (meshRoom * message .size) s) ≡ meshRoom * message .size
+  slots-length = length-part headerSize (meshRoom * message .size) s (rw message-size (omega (arith, ok .room)))
 
-  slot-inside : (n : ℕ) → n < 64 → n * message .size + message .size ≤ 64 * message .size
+  slot-inside : (n : ℕ) → n < 64 → n * message .size + message .size ≤ meshRoom * message .size
   slot-inside n h = rw message-size (omega arith)
 
-  same-places : (p m : ℕ) → modifyAt (32 + p * 40) (m * 40) (λ q. slice (32 + suc p * 40) (m * 40) s) s ≡ modifyAt (32 + 40 * p) (40 * m) (λ q. slice (32 + 40 * p + 40) (40 * m) s) s
+  same-places : (p m : ℕ) → modifyAt (headerSize + p * messageSize) (m * messageSize) (λ q. slice (headerSize + suc p * messageSize) (m * messageSize) s) s ≡ modifyAt (messageOffset p) (messageSize * m) (λ q. slice (messageOffset p + messageSize) (messageSize * m) s) s
   same-places p m =
-      let at : 32 + p * 40 ≡ 32 + 40 * p = omega arith in
-      let size : m * 40 ≡ 40 * m = omega arith in
-      let from : 32 + suc p * 40 ≡ 32 + 40 * p + 40 = omega arith in
+      let at : headerSize + p * messageSize ≡ messageOffset p = omega arith in
+      let size : m * messageSize ≡ messageSize * m = omega arith in
+      let from : headerSize + suc p * messageSize ≡ messageOffset p + messageSize = omega arith in
       λ i. modifyAt (at i) (size i) (λ q. slice (from i) (size i) s) s
 
   -- a message more is the message behind the others, and the count one more
-  pub append-put : (m : Message) → getD s 3 0 < 64
-      → set (modifyAt (32 + 40 * getD s 3 0) 40 (message .write m) s) 3 (getD s 3 0 + 1) ≡ put (withMesh (get s) (get s .mesh ++ m ∷ [])) s
+  pub append-put : (m : Message) → messagesIn s < 64
+      → set (modifyAt (messageOffset (messagesIn s)) messageSize (message .write m) s) 3 (messagesIn s + 1) ≡ put (withMesh (get s) (get s .mesh ++ m ∷ [])) s
   append-put m h =
       let k : ℕ = message .size in
-      let t : List ℕ = slice 32 (64 * k) s in
-      let n : ℕ = getD s 3 0 in
+      let t : List ℕ = slice headerSize (meshRoom * k) s in
+      let n : ℕ = messagesIn s in
       let e : length (get s .mesh) ≡ n = mesh-is s in
       sym
       (mesh-changes (get s .mesh ++ m ∷ [])
-      ∙ ap (λ (j : ℕ). set (modifyAt 32 (64 * k) (writeItems message (get s .mesh ++ m ∷ [])) s) 3 j) (length-append (get s .mesh) (m ∷ []) ∙ ap (λ (j : ℕ). j + 1) e)
-      ∙ ap (λ (r : List ℕ). set (take 32 s ++ (r ++ drop (32 + 64 * k) s)) 3 (n + 1))
+      ∙ ap (λ (j : ℕ). set (modifyAt headerSize (meshRoom * k) (writeItems message (get s .mesh ++ m ∷ [])) s) 3 j) (length-append (get s .mesh) (m ∷ []) ∙ ap (λ (j : ℕ). j + 1) e)
+      ∙ ap (λ (r : List ℕ). set (take headerSize s ++ (r ++ drop (headerSize + meshRoom * k) s)) 3 (n + 1))
       (items-more message message-lawful (get s .mesh) m t (le-trans (mul-le-mul-right k (le-trans (le-of-eq (ap suc e)) h)) (le-of-eq (sym slots-length)))
       ∙ (λ i. modifyAt (e i * k) k (message .write m) (mesh-unchanged i)))
       ∙ ap (λ (r : List ℕ). set r 3 (n + 1))
-      (over-over (message .write m) 32 (64 * k) (n * k) k s (slot-inside n h) ∙ ap (λ (j : ℕ). modifyAt (32 + n * j) j (message .write m) s) message-size
-      ∙ ap (λ (j : ℕ). modifyAt j 40 (message .write m) s) (let q : 32 + n * 40 ≡ 32 + 40 * n = omega arith in q)))
+      (over-over (message .write m) headerSize (meshRoom * k) (n * k) k s (slot-inside n h) ∙ ap (λ (j : ℕ). modifyAt (headerSize + n * j) j (message .write m) s) message-size
+      ∙ ap (λ (j : ℕ). modifyAt j messageSize (message .write m) s) (let q : headerSize + n * messageSize ≡ messageOffset n = omega arith in q)))
 
   -- a message less is the messages behind it moved up, and the count one less
-  pub removed-put : (p : ℕ) → p < getD s 3 0
-      → set (modifyAt (32 + 40 * p) (40 * (getD s 3 0 - 1 - p)) (λ r. slice (32 + 40 * p + 40) (40 * (getD s 3 0 - 1 - p)) s) s) 3 (getD s 3 0 - 1)
+  pub removed-put : (p : ℕ) → p < messagesIn s
+      → set (modifyAt (messageOffset p) (messageSize * (messagesIn s - 1 - p)) (λ r. slice (messageOffset p + messageSize) (messageSize * (messagesIn s - 1 - p)) s) s) 3 (messagesIn s - 1)
       ≡ put (withMesh (get s) (removeAt (get s .mesh) p)) s
   removed-put p h =
       let k : ℕ = message .size in
-      let t : List ℕ = slice 32 (64 * k) s in
-      let n : ℕ = getD s 3 0 - 1 in
-      let z : getD s 3 0 ≤ 64 = ok .messages in
-      let e : getD s 3 0 ≡ suc n = omega arith in
-      let fits : p * 40 + 40 + (n - p) * 40 ≤ 64 * 40 = omega arith in
+      let t : List ℕ = slice headerSize (meshRoom * k) s in
+      let n : ℕ = messagesIn s - 1 in
+      let z : messagesIn s ≤ 64 = ok .messages in
+      let e : messagesIn s ≡ suc n = omega arith in
+      let fits : p * messageSize + messageSize + (n - p) * messageSize ≤ meshRoom * messageSize = omega arith in
       sym
       (mesh-changes (removeAt (get s .mesh) p)
-      ∙ (λ i. set (modifyAt 32 (64 * k) (writeItems message (removeAt ((mesh-items s ok ∙ ap (λ (j : ℕ). readItems message j t) e) i) p)) s) 3 (removed-length p (get s .mesh) n (mesh-is s ∙ e) (omega arith) i))
-      ∙ ap (λ (r : List ℕ). set (take 32 s ++ (r ++ drop (32 + 64 * k) s)) 3 n)
+      ∙ (λ i. set (modifyAt headerSize (meshRoom * k) (writeItems message (removeAt ((mesh-items s ok ∙ ap (λ (j : ℕ). readItems message j t) e) i) p)) s) 3 (removed-length p (get s .mesh) n (mesh-is s ∙ e) (omega arith) i))
+      ∙ ap (λ (r : List ℕ). set (take headerSize s ++ (r ++ drop (headerSize + meshRoom * k) s)) 3 n)
       (items-removed message message-lawful message-full n p t (omega arith) (subst (λ (j : ℕ). StandItems message j t) e (mesh-stands s ok)))
       ∙ ap (λ (r : List ℕ). set r 3 n)
-      (ap (λ (j : ℕ). modifyAt 32 (64 * j) (modifyAt (p * j) ((n - p) * j) (λ r. slice (suc p * j) ((n - p) * j) (slice 32 (64 * j) s))) s) message-size
-      ∙ over-over (λ r. slice (suc p * 40) ((n - p) * 40) (slice 32 2560 s)) 32 2560 (p * 40) ((n - p) * 40) s (omega arith)
-      ∙ ap (λ (r : List ℕ). modifyAt (32 + p * 40) ((n - p) * 40) (λ q. r) s) (part-part 32 2560 (suc p * 40) ((n - p) * 40) s (omega arith))
+      (ap (λ (j : ℕ). modifyAt headerSize (meshRoom * j) (modifyAt (p * j) ((n - p) * j) (λ r. slice (suc p * j) ((n - p) * j) (slice headerSize (meshRoom * j) s))) s) message-size
+      ∙ over-over (λ r. slice (suc p * messageSize) ((n - p) * messageSize) (slice headerSize meshSize s)) headerSize meshSize (p * messageSize) ((n - p) * messageSize) s (omega arith)
+      ∙ ap (λ (r : List ℕ). modifyAt (headerSize + p * messageSize) ((n - p) * messageSize) (λ q. r) s) (part-part headerSize meshSize (suc p * messageSize) ((n - p) * messageSize) s (omega arith))
       ∙ same-places p (n - p)))

@@ -10,12 +10,12 @@ use lib.Dec.{eqb}
 use lib.ListN.{length, getD, set, take, drop, length-set, take-append-drop}
 use lib.Seq.{take-take}
 use Rattle.spec_base.specs.Folds.{toℕ}
-use Rattle.spec_base.specs.Number.{number}
-use Rattle.spec_base.specs.Layout.{slice, modifyAt, overwrite, byte, flag, big, pair, zeroed}
+use Rattle.spec_base.specs.Layout.{slice, modifyAt, byte, flag, pair, zeroed}
 use Rattle.spec_base.proofs.Laws.{byte-lawful, flag-lawful, pair-lawful, cuts-length}
 use Rattle.spec_base.proofs.Places.{read-byte, write-byte, read-pair, write-pair}
+use Rattle.spec_base.proofs.WordBytes.{cover-first, cover-none}
 use Rattle.spec_rack.specs.declared.Message.{Message}
-use Rattle.spec_rack.specs.RecordLayout.{Tokens, tokens, words, Endpoints, endpoints, messageHeader, fromMessage, message}
+use Rattle.spec_rack.specs.RecordLayout.{Tokens, tokens, words, Endpoints, endpoints, messageHeader, fromMessage, message, messageSize}
 use Rattle.spec_rack.proofs.LayoutParts.{ends-lawful, tokens-lawful, heading-lawful, heading-size, words-size}
 
 -- ---- read
@@ -28,43 +28,7 @@ tokens-read p s =
     ∙ (λ i. (getD s p 0, (eqb (read-byte (p + 1) s i) 1, eqb (read-byte (p + 1 + 1) s i) 1)))
     ∙ ap (λ (k : ℕ). (getD s p 0, (eqb (getD s (p + 1) 0) 1, eqb (getD s k 0) 1))) (let e : p + 1 + 1 ≡ p + 2 = omega arith in e)
 
--- a word is its four bytes
-pub word-read : (p : ℕ) (s : List ℕ) → big 4 .read (slice p 4 s) ≡ number (take 4 (drop p s))
-word-read p s = ap number (take-take 4 4 (drop p s) (omega arith))
-
 -- ---- written
-
--- bytes laid over others, one after the other
-cover-first : (b : ℕ) (bs s : List ℕ) (p n : ℕ) → p < length s → modifyAt p (suc n) (overwrite (b ∷ bs)) s ≡ modifyAt (p + 1) n (overwrite bs) (set s p b)
-unfolding overwrite
-cover-first b bs [] p n l = absurd (omega arith)
-cover-first b bs (x ∷ s) zero n l = simp (unary-clauses, zero-add, one-add)
-cover-first b bs (x ∷ s) (suc p) n l = simp (unary-clauses, suc-add) (ap (λ (r : List ℕ). x ∷ r) (simp (unary-clauses, suc-add) at (cover-first b bs s p n (omega arith))))
-
-cover-none : (s : List ℕ) (p : ℕ) → modifyAt p 0 (overwrite []) s ≡ s
-unfolding overwrite
-cover-none s p = simp unary-clauses (take-append-drop p s)
-
-pub word-write : (p v : ℕ) (s : List ℕ) → v < 2 ^ 32 → p + 4 ≤ length s
-    → set (set (set (set s p (v / 16777216)) (p + 1) (v / 65536 % 256)) (p + 2) (v / 256 % 256)) (p + 3) (v % 256) ≡ modifyAt p 4 (big 4 .write v) s
-word-write p v s h l =
-    let a : ℕ = v / 256 / 256 / 256 % 256 in
-    let b : ℕ = v / 256 / 256 % 256 in
-    let c : ℕ = v / 256 % 256 in
-    let d : ℕ = v % 256 in
-    let p₂ : p + 1 + 1 ≡ p + 2 = omega arith in
-    let p₃ : p + 2 + 1 ≡ p + 3 = omega arith in
-    let high : v / 16777216 ≡ a = omega arith in
-    let next : v / 65536 % 256 ≡ b = omega arith in
-    sym
-    (cover-first a (b ∷ c ∷ d ∷ []) s p 3 (omega arith)
-    ∙ cover-first b (c ∷ d ∷ []) (set s p a) (p + 1) 2 (simp length-set (omega arith))
-    ∙ ap (λ (q : ℕ). modifyAt q 2 (overwrite (c ∷ d ∷ [])) (set (set s p a) (p + 1) b)) p₂
-    ∙ cover-first c (d ∷ []) (set (set s p a) (p + 1) b) (p + 2) 1 (simp length-set (omega arith))
-    ∙ ap (λ (q : ℕ). modifyAt q 1 (overwrite (d ∷ [])) (set (set (set s p a) (p + 1) b) (p + 2) c)) p₃
-    ∙ cover-first d [] (set (set (set s p a) (p + 1) b) (p + 2) c) (p + 3) 0 (simp length-set (omega arith))
-    ∙ cover-none (set (set (set (set s p a) (p + 1) b) (p + 2) c) (p + 3) d) (p + 3 + 1)
-    ∙ (λ i. set (set (set (set s p (sym high i)) (p + 1) (sym next i)) (p + 2) c) (p + 3) d))
 
 over-length : (p n : ℕ) (f : List ℕ → List ℕ) (s : List ℕ) → length (f (slice p n s)) ≡ length (slice p n s) → length (modifyAt p n f s) ≡ length s
 over-length p n f s e = cuts-length p n (take p s) (f (slice p n s)) s refl e
@@ -119,10 +83,10 @@ heading-write p v s l =
     ∙ ap (modifyAt (p + 6) 2 (zeroed 2 .write tt)) (sym (write-pair endpoints tokens p s ends-lawful v (omega arith)))
     ∙ sym (write-pair (pair endpoints tokens) (zeroed 2) p s (pair-lawful endpoints tokens ends-lawful tokens-lawful) (v, tt) l)
 
-pub message-write : (p : ℕ) (m : Message) (s : List ℕ) → p + 40 ≤ length s
+pub message-write : (p : ℕ) (m : Message) (s : List ℕ) → p + messageSize ≤ length s
     → modifyAt (p + 8) 32 (words .write (m .words))
     (set (set (modifyAt (p + 3) 3 (tokens .write (m .plain, (m .owner, m .«data»))) (set (set (set s p (m .sender)) (p + 1) (m .target)) (p + 2) (m .block))) (p + 6) 0) (p + 7) 0)
-    ≡ modifyAt p 40 (message .write m) s
+    ≡ modifyAt p messageSize (message .write m) s
 unfolding message
 message-write p m s l =
     let v : Endpoints × Tokens = fromMessage m .0 in

@@ -1,4 +1,4 @@
-// What a component has of a block: its tokens, a byte in each of three lanes, and its words.
+// A cell: what a component has of a block. Its token state is a byte in each of three lanes; its words stand apart.
 ghost use mathlib.Core.Path.{_≡_};
 ghost use Prim.Native.Nat.{_+_, _*_, _<_};
 ghost use lib.ListN.{getD};
@@ -8,9 +8,11 @@ ghost use Rattle.spec_rack.specs.RecordLayout.{blockOffset, wordsOffset, wordsS
 ghost use Rattle.record.specs.Needs.{CellInRecord};
 ghost use Rattle.record.specs.Changes.{TokenStateOf, withTokenState, newCell, replaceCell};
 use super::TokenState;
-use super::byte;
 use super::tokens;
 use super::words;
+use base::byte_at;
+use base::numbers::put_u32;
+use base::numbers::u32_at;
 use spec_rack::BLOCK_SIZE;
 use spec_rack::BLOCKS_OFFSET;
 use spec_rack::OWNER_OFFSET;
@@ -18,41 +20,41 @@ use spec_rack::VALID_OFFSET;
 use spec_rack::WORDS_OFFSET;
 use spec_rack::WORDS_SIZE;
 
-// Where a block stands.
+// The offset of a block.
 pub fn block_offset(block: u8) -> usize
     ensures { λ r. ⌜ r ≡ blockOffset block ⌝ }
 {
     BLOCKS_OFFSET + BLOCK_SIZE * (block as usize)
 }
 
-// Where the plain count of a block and a component stands.
+// The offset of a component's plain count in a block.
 pub fn plain_offset(block: u8, component: u8) -> usize
     ensures { λ r. ⌜ r ≡ blockOffset block + component ⌝ }
 {
     BLOCKS_OFFSET + BLOCK_SIZE * (block as usize) + component as usize
 }
 
-// Where the words of a block and a component stand.
+// The offset of a component's words in a block.
 pub fn words_offset(block: u8, component: u8) -> usize
     ensures { λ r. ⌜ r ≡ blockOffset block + wordsOffset + wordsSize * component ⌝ }
 {
     BLOCKS_OFFSET + BLOCK_SIZE * (block as usize) + WORDS_OFFSET + WORDS_SIZE * (component as usize)
 }
 
-// The state of a cell.
+// The token state of a cell.
 pub fn token_state(rec: &[u8], block: u8, component: u8) -> TokenState
     requires { ⌜ CellInRecord (now rec) block component ⌝ }
     ensures { λ r. ⌜ TokenStateOf (cellAt (get (now (rec .entry))) block component) r ⌝ }
 {
     let at = plain_offset(block, component);
     TokenState {
-        plain: byte(rec, at, 0),
-        owner: byte(rec, at, OWNER_OFFSET) == 1,
-        valid: byte(rec, at, VALID_OFFSET) == 1,
+        plain: byte_at(rec, at, 0),
+        owner: byte_at(rec, at, OWNER_OFFSET) == 1,
+        valid: byte_at(rec, at, VALID_OFFSET) == 1,
     }
 }
 
-// Another plain count, owner and valid mark; the words stay.
+// Writes a cell's token state; its words stay.
 pub fn set_token_state(rec: &mut [u8], block: u8, component: u8, state: TokenState)
     requires { ⌜ CellInRecord (now rec) block component ⌝ }
     ensures { λ r. ⌜ now (rec .exit) ≡ put (replaceCell (get (now (rec .entry))) block component (withTokenState (cellAt (get (now (rec .entry))) block component) state)) (now (rec .entry)) ⌝ }
@@ -61,7 +63,7 @@ pub fn set_token_state(rec: &mut [u8], block: u8, component: u8, state: TokenSta
     tokens::put_lanes(rec, at, state);
 }
 
-// Another plain count, owner, valid mark and words.
+// Writes a cell's token state and words.
 pub fn set_cell(rec: &mut [u8], block: u8, component: u8, state: TokenState, values: [u32; 8])
     requires { ⌜ CellInRecord (now rec) block component ⌝ }
     ensures { λ r. ⌜ now (rec .exit) ≡ put (replaceCell (get (now (rec .entry))) block component (newCell state values)) (now (rec .entry)) ⌝ }
@@ -78,17 +80,17 @@ pub fn word(rec: &[u8], block: u8, component: u8, index: u8) -> u32
     ensures { λ r. ⌜ r ≡ getD (cellAt (get (now (rec .entry))) block component .words) index 0 ⌝ }
 {
     let at = words_offset(block, component);
-    words::word_at(rec, at + 4 * (index as usize))
+    u32_at(rec, at + 4 * (index as usize))
 }
 
-// Another word in a cell.
+// Writes a word of a cell.
 pub fn set_word(rec: &mut [u8], block: u8, component: u8, index: u8, value: u32)
     requires { ⌜ CellInRecord (now rec) block component × (index < 8) ⌝ }
     ensures { λ r. ⌜ now (rec .exit) ≡ put (stored (get (now (rec .entry))) component block index value) (now (rec .entry)) ⌝ }
 {
     let at = words_offset(block, component);
     let place = at + 4 * (index as usize);
-    words::put_word(rec, place, value);
+    put_u32(rec, place, value);
 }
 
 // All words of a cell.

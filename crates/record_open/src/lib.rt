@@ -8,17 +8,23 @@ ghost use Rattle.spec_rack.specs.RecordLayout.{blockSize, recordLength, block, 
 ghost use Rattle.spec_rack.specs.Opening.{openReply, openAfter};
 use record::sizes;
 use spec_rack::Answer;
+use spec_rack::BLOCK_COUNT_OFFSET;
 use spec_rack::BLOCK_SIZE;
 use spec_rack::BLOCKS_OFFSET;
+use spec_rack::BOARD_COUNT_OFFSET;
 use spec_rack::CLAIMS_OFFSET;
+use spec_rack::CLAIMS_SIZE;
+use spec_rack::LANES_SIZE;
+use spec_rack::MESSAGE_COUNT_OFFSET;
 use spec_rack::OWNER_OFFSET;
 use spec_rack::Reply;
+use spec_rack::TOKEN_COUNT_OFFSET;
 use spec_rack::VALID_OFFSET;
 use spec_rack::WORDS_OFFSET;
 use spec_rack::WORDS_SIZE;
 use spec_wire::Refusal;
 
-// Makes bytes from a place on 0.
+// Makes `count` bytes from `at` on 0.
 fn zero_fill(s: &mut [u8], at: usize, count: usize)
     requires { ⌜ at + count ≤ length (now s) ⌝ }
     ensures { λ r. ⌜ now (s .exit) ≡ modifyAt at count (λ t. replicate count 0) (now (s .entry)) ⌝ }
@@ -30,7 +36,7 @@ fn zero_fill(s: &mut [u8], at: usize, count: usize)
     }
 }
 
-// Writes the fresh block at a place: home holds all tokens, valid.
+// Writes the fresh block at `at`: home holds all tokens, valid.
 fn open_block(rec: &mut [u8], at: usize, boards: u32, tokens: u32)
     requires { ⌜ (boards < 16) × (1 ≤ tokens) × (tokens ≤ 64) × (at + blockSize ≤ length (now rec)) ⌝ }
     ensures { λ r. ⌜ now (rec .exit) ≡ modifyAt at blockSize (block boards .write (freshBlock boards tokens)) (now (rec .entry)) ⌝ }
@@ -38,8 +44,8 @@ fn open_block(rec: &mut [u8], at: usize, boards: u32, tokens: u32)
     let words = WORDS_SIZE * (boards as usize + 1);
     let sets = at + CLAIMS_OFFSET;
     let behind = at + WORDS_OFFSET;
-    zero_fill(rec, at, 48);
-    zero_fill(rec, sets, 34);
+    zero_fill(rec, at, LANES_SIZE);
+    zero_fill(rec, sets, CLAIMS_SIZE);
     zero_fill(rec, behind, words);
     rec[at] = (tokens - 1) as u8;
     rec[at + OWNER_OFFSET] = 1;
@@ -51,10 +57,10 @@ fn write_fresh(rec: &mut [u8], boards: u32, blocks: u32, tokens: u32)
     requires { ⌜ (boards < 16) × (1 ≤ tokens) × (tokens ≤ 64) × (blocks ≤ 32) × (recordLength blocks ≤ length (now rec)) ⌝ }
     ensures { λ r. ⌜ now (rec .exit) ≡ put (fresh boards blocks tokens) (now (rec .entry)) ⌝ }
 {
-    rec[0] = boards as u8;
-    rec[1] = blocks as u8;
-    rec[2] = tokens as u8;
-    rec[3] = 0;
+    rec[BOARD_COUNT_OFFSET] = boards as u8;
+    rec[BLOCK_COUNT_OFFSET] = blocks as u8;
+    rec[TOKEN_COUNT_OFFSET] = tokens as u8;
+    rec[MESSAGE_COUNT_OFFSET] = 0;
     let count = blocks as usize;
     let mut b: usize = 0;
     while b < count {

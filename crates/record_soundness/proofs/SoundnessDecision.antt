@@ -14,20 +14,17 @@ use Rattle.spec_base.specs.Layout.{slice}
 use Rattle.spec_base.proofs.Tests.{and-l, and-r, and-of, and-left, and-right, and-known, same-test, one-lt, eqb-one, cond-of}
 use Rattle.spec_base.proofs.Folds.{below-of, below-at, below-same, at-set, every-below, sum-next, sum-most, sum-below, sum-short, sum-scaled}
 use Rattle.spec_rack.specs.Claims.{soundClaims}
-use Rattle.spec_rack.specs.RecordLayout.{claims}
-use Rattle.spec_rack.specs.RecordLayout.{claimsAtOffset as claimsBytes}
+use Rattle.spec_rack.specs.RecordLayout.{claims, claimsAtOffset as claimsBytes, messageOffset, blockOffset, ownerOffset, validOffset, claimsOffset, wordsOffset, wordsSize, Tokens, words, toCell, message, tokenLanes, block, recordLength, layoutOf, get, blockSize, blocksIn, boardsIn, claimsSize, lanesSize, messageSize, messagesIn, tokensIn}
 use Rattle.spec_rack.specs.declared.Message.{Message}
 use Rattle.spec_rack.specs.Rack.{Cell, meshLimit, owners, held, carried, noCell, noMessage, blockAt, cellAt, messageAt, tokensOf, ownersOf}
-use Rattle.spec_rack.specs.Soundness.{sizes, soundCell, soundMessage, soundBlock, sound}
-use Rattle.spec_rack.specs.RecordLayout.{messageOffset, blockOffset, ownerOffset, validOffset, claimsOffset, wordsOffset, wordsSize, Tokens, words, toCell, message, tokenLanes, block, recordLength, layoutOf, get}
-use Rattle.spec_rack.specs.Soundness.{wellFormedRecord, soundBytes}
+use Rattle.spec_rack.specs.Soundness.{sizes, soundCell, soundMessage, soundBlock, sound, wellFormedRecord, soundBytes}
 use Rattle.spec_rack.proofs.GetPut.{Formed, formed-of, well-formed, boards-is, blocks-is, tokens-is, mesh-is}
 use Rattle.record.proofs.FieldOffsets.{cells-many, tokens-at, words-at, claims-at, message-at, message-stands}
 use Rattle.record.proofs.FieldBytes.{words-eight, message-read, message-formed, block-formed, record-formed}
-use Rattle.record_soundness.specs.Lanes.{plainAt, ownerAt, validAt, soundLane, soundLanes, unusedLanesEmpty, laneSum, tokenSumAt}
-use Rattle.record_soundness.specs.Messages.{soundMessageAt}
+use Rattle.record_lanes.specs.Lanes.{plainAt, ownerAt, validAt, soundLane, soundLanes, unusedLanesEmpty, laneSum}
+use Rattle.record_message.specs.Messages.{tokenSumAt, soundMessageAt}
 use Rattle.record_soundness.specs.Decision.{carriedSumAt, sumInFlight, tokensTotal, soundClaimsAt, soundBlockAt}
-use Rattle.record_soundness.proofs.LaneLaws.{lane-cell, Lanes, lanes-facts, lanes-form, lanes-fine, lanes-same}
+use Rattle.record_lanes.proofs.LaneLaws.{lane-cell, Lanes, lanes-facts, lanes-form, lanes-fine, lanes-same}
 
 -- ---- the weights
 
@@ -39,30 +36,30 @@ module _ (s : List ℕ) where
   unfolding sumInFlight sumBelow
   flying-none k = refl
 
-  pub flying-next : (i k : ℕ) → sumInFlight s (i + 1) k ≡ carriedSumAt s k (32 + 40 * i) + sumInFlight s i k
+  pub flying-next : (i k : ℕ) → sumInFlight s (i + 1) k ≡ carriedSumAt s k (messageOffset i) + sumInFlight s i k
   unfolding sumInFlight
-  flying-next i k = sum-next (λ j. carriedSumAt s k (32 + 40 * j)) i
+  flying-next i k = sum-next (λ j. carriedSumAt s k (messageOffset j)) i
 
   module _ (h : Bytes s) where
     pub flying-most : (m k : ℕ) → sumInFlight s m k ≤ m * 16711935
     unfolding sumInFlight
     flying-most m k =
-        sum-most (λ i. carriedSumAt s k (32 + 40 * i)) 16711935 m
-        (λ i l. cond-of (λ w. w ≤ 16711935) (eqb (getD s (32 + 40 * i + 2) 0) k) (tokenSumAt s (32 + 40 * i + 3)) 0 (weight-most s h (32 + 40 * i + 3)) (omega arith))
+        sum-most (λ i. carriedSumAt s k (messageOffset i)) 16711935 m
+        (λ i l. cond-of (λ w. w ≤ 16711935) (eqb (getD s (messageOffset i + 2) 0) k) (tokenSumAt s (messageOffset i + 3)) 0 (weight-most s h (messageOffset i + 3)) (omega arith))
 
   -- the sums after one message more
-  pub sums-turn : (sums : List ℕ) (i b v : ℕ) → length sums ≡ 32 → b < 32 → b ≡ getD s (32 + 40 * i + 2) 0 → v ≡ tokenSumAt s (32 + 40 * i + 3) + getD sums b 0
+  pub sums-turn : (sums : List ℕ) (i b v : ℕ) → length sums ≡ 32 → b < 32 → b ≡ getD s (messageOffset i + 2) 0 → v ≡ tokenSumAt s (messageOffset i + 3) + getD sums b 0
       → ((k : ℕ) → k < 32 → getD sums k 0 ≡ sumInFlight s i k) → (k : ℕ) → k < 32 → getD (set sums b v) k 0 ≡ sumInFlight s (i + 1) k
   sums-turn sums i b v n l eb ev f k q =
       at-set (λ w. w ≡ sumInFlight s (i + 1) k) sums b k v 0 (omega arith)
       (λ (e : k ≡ b).
-      ev ∙ (λ j. tokenSumAt s (32 + 40 * i + 3) + (ap (λ (z : ℕ). getD sums z 0) (sym e) ∙ f k q) j)
-      ∙ ap (λ (t : Bool). cond t (tokenSumAt s (32 + 40 * i + 3)) 0 + sumInFlight s i k) (sym (eq-eqb (getD s (32 + 40 * i + 2) 0) k (sym eb ∙ sym e)))
+      ev ∙ (λ j. tokenSumAt s (messageOffset i + 3) + (ap (λ (z : ℕ). getD sums z 0) (sym e) ∙ f k q) j)
+      ∙ ap (λ (t : Bool). cond t (tokenSumAt s (messageOffset i + 3)) 0 + sumInFlight s i k) (sym (eq-eqb (getD s (messageOffset i + 2) 0) k (sym eb ∙ sym e)))
       ∙ sym (flying-next i k))
       (λ (ne : k ≡ b → ⊥).
       f k q
       ∙ sym (zero-add (sumInFlight s i k))
-      ∙ ap (λ (t : Bool). cond t (tokenSumAt s (32 + 40 * i + 3)) 0 + sumInFlight s i k) (sym (ne-eqb (getD s (32 + 40 * i + 2) 0) k (λ e. ne (sym e ∙ sym eb))))
+      ∙ ap (λ (t : Bool). cond t (tokenSumAt s (messageOffset i + 3)) 0 + sumInFlight s i k) (sym (ne-eqb (getD s (messageOffset i + 2) 0) k (λ e. ne (sym e ∙ sym eb))))
       ∙ sym (flying-next i k))
 
 -- ---- a sum of weights is a sum of tokens and a sum of owners
@@ -105,32 +102,32 @@ chosen-weight false w a x e = refl
 
 module _ (s : List ℕ) (ok : Formed s) where
   abbrev n : ℕ
-  n = getD s 0 0
+  n = boardsIn s
 
   abbrev b : ℕ
-  b = getD s 1 0
+  b = blocksIn s
 
   abbrev t : ℕ
-  t = getD s 2 0
+  t = tokensIn s
 
   abbrev m : ℕ
-  m = getD s 3 0
+  m = messagesIn s
 
   -- ---- messages
 
-  messages-same : all (soundMessage (get s .boards) (length (get s .blocks))) (get s .mesh) ≡ allBelow m (λ i. soundMessageAt n b s (32 + 40 * i))
+  messages-same : all (soundMessage (get s .boards) (length (get s .blocks))) (get s .mesh) ≡ allBelow m (λ i. soundMessageAt n b s (messageOffset i))
   unfolding soundMessageAt
   messages-same =
       every-below noMessage (soundMessage (get s .boards) (length (get s .blocks))) (get s .mesh)
       ∙ (λ i. allBelow (mesh-is s i) (λ j. soundMessage (boards-is s i) (blocks-is s i) (messageAt (get s) j)))
-      ∙ below-same (λ j. soundMessage n b (messageAt (get s) j)) (λ j. soundMessageAt n b s (32 + 40 * j)) m
+      ∙ below-same (λ j. soundMessage n b (messageAt (get s) j)) (λ j. soundMessageAt n b s (messageOffset j)) m
       (λ j l. ap (soundMessage n b) (message-at s ok j l)
-      ∙ sym (and-known (message .wellFormed (slice (32 + 40 * j) 40 s)) (soundMessage n b (message .read (slice (32 + 40 * j) 40 s))) (message-stands s ok j l .wellFormed)))
+      ∙ sym (and-known (message .wellFormed (slice (messageOffset j) messageSize s)) (soundMessage n b (message .read (slice (messageOffset j) messageSize s))) (message-stands s ok j l .wellFormed)))
 
   -- of the message at a place: its block, tokens and owners
   module _ (k i : ℕ) (l : i < m) where
     abbrev at : ℕ
-    at = 32 + 40 * i
+    at = messageOffset i
 
     message-bytes : messageAt (get s) i
         ≡ record {
@@ -163,14 +160,14 @@ module _ (s : List ℕ) (ok : Formed s) where
     abbrev home : ℕ
     home = blockOffset k
 
-    block-form : (tokenLanes n .wellFormed (slice home 48 s) && claims n .wellFormed (slice (home + claimsOffset) 34 s)) ≡ true
+    block-form : (tokenLanes n .wellFormed (slice home lanesSize s) && claims n .wellFormed (slice (home + claimsOffset) claimsSize s)) ≡ true
     block-form =
         sym (block-formed s n home (ok .boards))
-        ∙ below-at (λ j. block n .wellFormed (slice (blockOffset j) 632 s)) b
-        (and-r (allBelow m (λ i. message .wellFormed (slice (messageOffset i) 40 s))) (allBelow b (λ j. block n .wellFormed (slice (blockOffset j) 632 s))) (sym (record-formed s (ok .messages)) ∙ ok .wellFormed)) k hk
+        ∙ below-at (λ j. block n .wellFormed (slice (blockOffset j) blockSize s)) b
+        (and-r (allBelow m (λ i. message .wellFormed (slice (messageOffset i) messageSize s))) (allBelow b (λ j. block n .wellFormed (slice (blockOffset j) blockSize s))) (sym (record-formed s (ok .messages)) ∙ ok .wellFormed)) k hk
 
     lanes : Lanes n home s (ok .boards)
-    lanes = lanes-facts n home s (ok .boards) (and-l (tokenLanes n .wellFormed (slice home 48 s)) (claims n .wellFormed (slice (home + claimsOffset) 34 s)) block-form)
+    lanes = lanes-facts n home s (ok .boards) (and-l (tokenLanes n .wellFormed (slice home lanesSize s)) (claims n .wellFormed (slice (home + claimsOffset) claimsSize s)) block-form)
 
     cells-length : length (blockAt (get s) k .cells) ≡ suc n
     cells-length = cells-many s ok k hk
@@ -229,7 +226,7 @@ module _ (s : List ℕ) (ok : Formed s) where
         let some : sum g ms ≤ m * 256 = list-most noMessage ms m (mesh-is s) g o (message-most k) in
         halves (laneSum s home + laneSum s (home + ownerOffset) * 65536) (sumInFlight s m k) (sum held cs) (sum (λ x. owners (x .owner)) cs) (sum g ms) (sum o ms) t
         (resting ∙ list-split noCell cs (suc n) cells-length held (λ x. owners (x .owner)) (λ c. plainAt s home c + ownerAt s home c * 65536) cell-weight)
-        (list-split noMessage ms m (mesh-is s) g o (λ i. carriedSumAt s k (32 + 40 * i)) (message-weight k))
+        (list-split noMessage ms m (mesh-is s) g o (λ i. carriedSumAt s k (messageOffset i)) (message-weight k))
         (omega (arith, ok .boards, ok .messages)) (ok .bytes 2)
 
     block-same : soundBlock (get s) k ≡ soundBlockAt n t s home (sumInFlight s m k)
@@ -239,9 +236,9 @@ module _ (s : List ℕ) (ok : Formed s) where
         eqb (cells-length i) (suc (boards-is s i)) && eqb (tokensOf (get s) k) (tokens-is s i) && eqb (ownersOf (get s) k) 1
         && cells-same i && soundClaims (boards-is s i) (claims-at s ok k hk i))
         ∙ turned (eqb (suc n) (suc n)) (eqb (tokensOf (get s) k) t) (eqb (ownersOf (get s) k) 1) (soundLanes s home && unusedLanesEmpty n s home)
-        (soundClaims n (claimsBytes n (home + claimsOffset) s)) (claims n .wellFormed (slice (home + claimsOffset) 34 s)) (eq-eqb (suc n) (suc n) refl)
-        (and-r (tokenLanes n .wellFormed (slice home 48 s)) (claims n .wellFormed (slice (home + claimsOffset) 34 s)) block-form)
-        ∙ ap (λ (w : Bool). (w && (claims n .wellFormed (slice (home + claimsOffset) 34 s) && soundClaims n (claimsBytes n (home + claimsOffset) s))) && (soundLanes s home && unusedLanesEmpty n s home)) (sym weight-same)
+        (soundClaims n (claimsBytes n (home + claimsOffset) s)) (claims n .wellFormed (slice (home + claimsOffset) claimsSize s)) (eq-eqb (suc n) (suc n) refl)
+        (and-r (tokenLanes n .wellFormed (slice home lanesSize s)) (claims n .wellFormed (slice (home + claimsOffset) claimsSize s)) block-form)
+        ∙ ap (λ (w : Bool). (w && (claims n .wellFormed (slice (home + claimsOffset) claimsSize s) && soundClaims n (claimsBytes n (home + claimsOffset) s))) && (soundLanes s home && unusedLanesEmpty n s home)) (sym weight-same)
       where
         turned : (e a o c x f : Bool) → e ≡ true → f ≡ true → (e && a && o && c && x) ≡ (((a && o) && (f && x)) && c)
         turned e a o c x f h g =
@@ -251,7 +248,7 @@ module _ (s : List ℕ) (ok : Formed s) where
 
   -- ---- the whole
 
-  decided : sound (get s) ≡ (sizes n b t && leb m 64 && allBelow m (λ i. soundMessageAt n b s (32 + 40 * i)) && allBelow b (λ k. soundBlockAt n t s (blockOffset k) (sumInFlight s m k)))
+  decided : sound (get s) ≡ (sizes n b t && leb m 64 && allBelow m (λ i. soundMessageAt n b s (messageOffset i)) && allBelow b (λ k. soundBlockAt n t s (blockOffset k) (sumInFlight s m k)))
   unfolding sound meshLimit
   decided = λ i.
       sizes (boards-is s i) (blocks-is s i) (tokens-is s i) && leb (mesh-is s i) 64 && messages-same i
@@ -259,31 +256,31 @@ module _ (s : List ℕ) (ok : Formed s) where
       ∙ below-same (soundBlock (get s)) (λ k. soundBlockAt n t s (blockOffset k) (sumInFlight s m k)) b block-same) i
 
 -- the lanes of each block of a well-formed record
-pub lanes-of : (s : List ℕ) (ok : Formed s) (k : ℕ) → k < getD s 1 0 → Lanes (getD s 0 0) (blockOffset k) s (ok .boards)
+pub lanes-of : (s : List ℕ) (ok : Formed s) (k : ℕ) → k < blocksIn s → Lanes (boardsIn s) (blockOffset k) s (ok .boards)
 lanes-of s ok k hk = lanes s ok k hk
 
 module _ (s : List ℕ) where
   -- sizes in range and few messages
   abbrev pub headerFine : Bool
-  headerFine = sizes (getD s 0 0) (getD s 1 0) (getD s 2 0) && leb (getD s 3 0) 64
+  headerFine = sizes (boardsIn s) (blocksIn s) (tokensIn s) && leb (messagesIn s) 64
 
   abbrev pub meshFine : Bool
-  meshFine = allBelow (getD s 3 0) (λ i. soundMessageAt (getD s 0 0) (getD s 1 0) s (32 + 40 * i))
+  meshFine = allBelow (messagesIn s) (λ i. soundMessageAt (boardsIn s) (blocksIn s) s (messageOffset i))
 
   abbrev pub blocksFine : Bool
-  blocksFine = allBelow (getD s 1 0) (λ k. soundBlockAt (getD s 0 0) (getD s 2 0) s (blockOffset k) (sumInFlight s (getD s 3 0) k))
+  blocksFine = allBelow (blocksIn s) (λ k. soundBlockAt (boardsIn s) (tokensIn s) s (blockOffset k) (sumInFlight s (messagesIn s) k))
 
   abbrev longEnough : Bool
-  longEnough = leb (recordLength (getD s 1 0)) (length s)
+  longEnough = leb (recordLength (blocksIn s)) (length s)
 
-  pub few-boards : headerFine ≡ true → getD s 0 0 ≤ 15
-  few-boards q = leb-true (getD s 0 0) 15 (search (and-l, and-r) depth 9)
+  pub few-boards : headerFine ≡ true → boardsIn s ≤ 15
+  few-boards q = leb-true (boardsIn s) 15 (search (and-l, and-r) depth 9)
 
-  pub few-blocks : headerFine ≡ true → getD s 1 0 ≤ 32
-  few-blocks q = leb-true (getD s 1 0) 32 (search (and-l, and-r) depth 9)
+  pub few-blocks : headerFine ≡ true → blocksIn s ≤ 32
+  few-blocks q = leb-true (blocksIn s) 32 (search (and-l, and-r) depth 9)
 
-  pub few-messages : headerFine ≡ true → getD s 3 0 ≤ 64
-  few-messages q = leb-true (getD s 3 0) 64 (search (and-l, and-r) depth 9)
+  pub few-messages : headerFine ≡ true → messagesIn s ≤ 64
+  few-messages q = leb-true (messagesIn s) 64 (search (and-l, and-r) depth 9)
 
   -- the sizes of the rack that the bytes hold are those of the bytes
   header-of : sound (get s) ≡ true → headerFine ≡ true
@@ -293,23 +290,23 @@ module _ (s : List ℕ) where
   form-of : headerFine ≡ true → meshFine ≡ true → blocksFine ≡ true → layoutOf s .wellFormed s ≡ true
   unfolding soundMessageAt soundBlockAt
   form-of q a b =
-      let n : ℕ = getD s 0 0 in
+      let n : ℕ = boardsIn s in
       record-formed s (few-messages q)
-      ∙ and-of (allBelow (getD s 3 0) (λ i. message .wellFormed (slice (messageOffset i) 40 s))) (allBelow (getD s 1 0) (λ k. block n .wellFormed (slice (blockOffset k) 632 s)))
-      (below-of (λ i. message .wellFormed (slice (messageOffset i) 40 s)) (getD s 3 0)
-      (λ i l. and-l (message .wellFormed (slice (messageOffset i) 40 s)) _ (below-at (λ j. soundMessageAt n (getD s 1 0) s (messageOffset j)) (getD s 3 0) a i l)))
-      (below-of (λ k. block n .wellFormed (slice (blockOffset k) 632 s)) (getD s 1 0)
+      ∙ and-of (allBelow (messagesIn s) (λ i. message .wellFormed (slice (messageOffset i) messageSize s))) (allBelow (blocksIn s) (λ k. block n .wellFormed (slice (blockOffset k) blockSize s)))
+      (below-of (λ i. message .wellFormed (slice (messageOffset i) messageSize s)) (messagesIn s)
+      (λ i l. and-l (message .wellFormed (slice (messageOffset i) messageSize s)) _ (below-at (λ j. soundMessageAt n (blocksIn s) s (messageOffset j)) (messagesIn s) a i l)))
+      (below-of (λ k. block n .wellFormed (slice (blockOffset k) blockSize s)) (blocksIn s)
       (λ k l.
       let home : ℕ = blockOffset k in
-      let T : Bool = tokensTotal (getD s 2 0) s home (sumInFlight s (getD s 3 0) k) in
+      let T : Bool = tokensTotal (tokensIn s) s home (sumInFlight s (messagesIn s) k) in
       let C : Bool = soundClaimsAt n s home in
-      let all : ((T && C) && (soundLanes s home && unusedLanesEmpty n s home)) ≡ true = below-at (λ j. soundBlockAt n (getD s 2 0) s (blockOffset j) (sumInFlight s (getD s 3 0) j)) (getD s 1 0) b k l in
+      let all : ((T && C) && (soundLanes s home && unusedLanesEmpty n s home)) ≡ true = below-at (λ j. soundBlockAt n (tokensIn s) s (blockOffset j) (sumInFlight s (messagesIn s) j)) (blocksIn s) b k l in
       let fine : (soundLanes s home && unusedLanesEmpty n s home) ≡ true = and-r (T && C) (soundLanes s home && unusedLanesEmpty n s home) all in
       let sets : C ≡ true = and-r T C (and-l (T && C) (soundLanes s home && unusedLanesEmpty n s home) all) in
       block-formed s n home (few-boards q)
-      ∙ and-of (tokenLanes n .wellFormed (slice home 48 s)) (claims n .wellFormed (slice (home + claimsOffset) 34 s))
+      ∙ and-of (tokenLanes n .wellFormed (slice home lanesSize s)) (claims n .wellFormed (slice (home + claimsOffset) claimsSize s))
       (lanes-form n home s (few-boards q) (lanes-fine n home s (few-boards q) (and-l (soundLanes s home) (unusedLanesEmpty n s home) fine) (and-r (soundLanes s home) (unusedLanesEmpty n s home) fine)))
-      (and-l (claims n .wellFormed (slice (home + claimsOffset) 34 s)) (soundClaims n (claimsBytes n (home + claimsOffset) s)) sets)))
+      (and-l (claims n .wellFormed (slice (home + claimsOffset) claimsSize s)) (soundClaims n (claimsBytes n (home + claimsOffset) s)) sets)))
 
   module _ (h : Bytes s) where
     sound-is : soundBytes s ≡ (longEnough && (headerFine && meshFine && blocksFine))
@@ -319,7 +316,7 @@ module _ (s : List ℕ) where
         (λ q.
         let e : headerFine ≡ true = header-of (and-r (wellFormedRecord s) (sound (get s)) q) in
         let ok : Formed s = formed-of s h (few-boards e) (few-messages e) (and-l (wellFormedRecord s) (sound (get s)) q) in
-        and-of longEnough (headerFine && meshFine && blocksFine) (le-leb (recordLength (getD s 1 0)) (length s) (ok .room)) (sym (decided s ok) ∙ and-r (wellFormedRecord s) (sound (get s)) q))
+        and-of longEnough (headerFine && meshFine && blocksFine) (le-leb (recordLength (blocksIn s)) (length s) (ok .room)) (sym (decided s ok) ∙ and-r (wellFormedRecord s) (sound (get s)) q))
         (λ q.
         let fine : (headerFine && meshFine && blocksFine) ≡ true = and-r longEnough (headerFine && meshFine && blocksFine) q in
         let e : headerFine ≡ true = and-l headerFine meshFine (and-l (headerFine && meshFine) blocksFine fine) in
@@ -328,15 +325,15 @@ module _ (s : List ℕ) where
           bytes = h;
           boards = few-boards e;
           messages = few-messages e;
-          room = leb-true (recordLength (getD s 1 0)) (length s) (and-l longEnough (headerFine && meshFine && blocksFine) q);
+          room = leb-true (recordLength (blocksIn s)) (length s) (and-l longEnough (headerFine && meshFine && blocksFine) q);
           wellFormed = form-of e (and-r headerFine meshFine (and-l (headerFine && meshFine) blocksFine fine)) (and-r (headerFine && meshFine) blocksFine fine);
         } in
         and-of (wellFormedRecord s) (sound (get s)) (well-formed s ok) (decided s ok ∙ fine))
 
     -- ---- as the code asks
 
-    pub unsound-room : length s < recordLength (getD s 1 0) → soundBytes s ≡ false
-    unsound-room l = sound-is ∙ and-left longEnough (headerFine && meshFine && blocksFine) (lt-leb (recordLength (getD s 1 0)) (length s) l)
+    pub unsound-room : length s < recordLength (blocksIn s) → soundBytes s ≡ false
+    unsound-room l = sound-is ∙ and-left longEnough (headerFine && meshFine && blocksFine) (lt-leb (recordLength (blocksIn s)) (length s) l)
 
     pub unsound-header : headerFine ≡ false → soundBytes s ≡ false
     unsound-header e =
@@ -349,12 +346,12 @@ module _ (s : List ℕ) where
         (and-left (headerFine && meshFine) blocksFine (and-right headerFine meshFine e))
 
     -- with the sums of the mesh
-    pub sound-blocks : headerFine ≡ true → recordLength (getD s 1 0) ≤ length s → meshFine ≡ true
-        → (sums : List ℕ) → ((k : ℕ) → k < 32 → getD sums k 0 ≡ sumInFlight s (getD s 3 0) k)
-        → allBelow (getD s 1 0) (λ k. soundBlockAt (getD s 0 0) (getD s 2 0) s (blockOffset k) (getD sums k 0)) ≡ soundBytes s
+    pub sound-blocks : headerFine ≡ true → recordLength (blocksIn s) ≤ length s → meshFine ≡ true
+        → (sums : List ℕ) → ((k : ℕ) → k < 32 → getD sums k 0 ≡ sumInFlight s (messagesIn s) k)
+        → allBelow (blocksIn s) (λ k. soundBlockAt (boardsIn s) (tokensIn s) s (blockOffset k) (getD sums k 0)) ≡ soundBytes s
     sound-blocks e l a sums f =
-        let few : getD s 1 0 ≤ 32 = few-blocks e in
-        below-same (λ k. soundBlockAt (getD s 0 0) (getD s 2 0) s (blockOffset k) (getD sums k 0)) (λ k. soundBlockAt (getD s 0 0) (getD s 2 0) s (blockOffset k) (sumInFlight s (getD s 3 0) k)) (getD s 1 0)
-        (λ k z. ap (soundBlockAt (getD s 0 0) (getD s 2 0) s (blockOffset k)) (f k (omega arith)))
-        ∙ sym (sound-is ∙ and-known longEnough (headerFine && meshFine && blocksFine) (le-leb (recordLength (getD s 1 0)) (length s) l)
+        let few : blocksIn s ≤ 32 = few-blocks e in
+        below-same (λ k. soundBlockAt (boardsIn s) (tokensIn s) s (blockOffset k) (getD sums k 0)) (λ k. soundBlockAt (boardsIn s) (tokensIn s) s (blockOffset k) (sumInFlight s (messagesIn s) k)) (blocksIn s)
+        (λ k z. ap (soundBlockAt (boardsIn s) (tokensIn s) s (blockOffset k)) (f k (omega arith)))
+        ∙ sym (sound-is ∙ and-known longEnough (headerFine && meshFine && blocksFine) (le-leb (recordLength (blocksIn s)) (length s) l)
         ∙ and-known (headerFine && meshFine) blocksFine (and-of headerFine meshFine e a))

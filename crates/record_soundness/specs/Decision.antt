@@ -7,13 +7,13 @@ use lib.Dec.{eqb}
 use Rattle.spec_base.specs.Folds.{sumBelow}
 use Rattle.spec_base.specs.Layout.{slice}
 use Rattle.spec_rack.specs.Claims.{soundClaims}
-use Rattle.spec_rack.specs.RecordLayout.{claims, claimsAtOffset}
-use Rattle.spec_rack.specs.RecordLayout.{ownerOffset, claimsOffset, messageOffset}
-use Rattle.record_soundness.specs.Lanes.{soundLanes, unusedLanesEmpty, laneSum, tokenSumAt}
+use Rattle.spec_rack.specs.RecordLayout.{claims, claimsAtOffset, ownerOffset, claimsOffset, messageOffset, claimsSize, messageBlockOffset, messagePlainOffset}
+use Rattle.record_lanes.specs.Lanes.{soundLanes, unusedLanesEmpty, laneSum}
+use Rattle.record_message.specs.Messages.{tokenSumAt}
 
 -- the weight of block k in the message at a place
 abbrev pub carriedSumAt : List ℕ → ℕ → ℕ → ℕ
-carriedSumAt s k at = cond (eqb (getD s (at + 2) 0) k) (tokenSumAt s (at + 3)) 0
+carriedSumAt s k at = cond (eqb (getD s (at + messageBlockOffset) 0) k) (tokenSumAt s (at + messagePlainOffset)) 0
 
 -- the weight of block k in the first m messages
 unfoldable pub sumInFlight : List ℕ → ℕ → ℕ → ℕ
@@ -23,9 +23,9 @@ sumInFlight s m k = sumBelow m (λ i. carriedSumAt s k (messageOffset i))
 abbrev pub tokensTotal : ℕ → List ℕ → ℕ → ℕ → Bool
 tokensTotal t s at mesh = eqb (laneSum s at + laneSum s (at + ownerOffset) * 65536 + mesh) (t + 65535)
 
--- its sets are wellFormed and sound
+-- its sets are well-formed and sound
 abbrev pub soundClaimsAt : ℕ → List ℕ → ℕ → Bool
-soundClaimsAt n s at = claims n .wellFormed (slice (at + claimsOffset) 34 s) && soundClaims n (claimsAtOffset n (at + claimsOffset) s)
+soundClaimsAt n s at = claims n .wellFormed (slice (at + claimsOffset) claimsSize s) && soundClaims n (claimsAtOffset n (at + claimsOffset) s)
 
 unfoldable pub soundBlockAt : ℕ → ℕ → List ℕ → ℕ → ℕ → Bool
 soundBlockAt n t s at mesh = (tokensTotal t s at mesh && soundClaimsAt n s at) && (soundLanes s at && unusedLanesEmpty n s at)

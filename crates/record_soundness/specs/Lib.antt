@@ -1,3 +1,1 @@
-pub mod Lanes
-pub mod Messages
 pub mod Decision

@@ -1,31 +1,38 @@
 // Whether the record at the front of a buffer is sound: one pass over its messages, then passes over its blocks.
-pub mod lanes;
-pub mod message;
+// order: block_set, lib
+pub mod block_set;
 
 ghost use mathlib.Core.Path.{_≡_};
 ghost use mathlib.Core.Bool.{true, _&&_};
 ghost use Prim.Native.Nat.{ℕ, _+_, _*_, _≤_, _<_};
 ghost use lib.ListN.{length, getD, replicate};
-ghost use Rattle.spec_base.specs.Folds.{allBelow};
-ghost use Rattle.spec_rack.specs.Soundness.{sizes};
+ghost use Rattle.spec_base.specs.Folds.{allBelow, implies};
+ghost use Rattle.spec_rack.specs.Boards.{member};
+ghost use Rattle.spec_rack.specs.Soundness.{sizes, soundBytes};
 ghost use Rattle.spec_rack.specs.RecordLayout.{blockSize, blocksOffset, blockOffset, messageOffset, recordLength};
-ghost use Rattle.spec_rack.specs.Soundness.{soundBytes};
-ghost use Rattle.record_soundness.specs.Messages.{soundMessageAt};
+ghost use Rattle.record_message.specs.Messages.{soundMessageAt};
 ghost use Rattle.record_soundness.specs.Decision.{sumInFlight, tokensTotal, soundClaimsAt, soundBlockAt};
 use base::both;
 use base::wide;
-use lanes::sum16;
-use message::sound_message_at;
-use message::token_sum;
 use record::sizes;
+use record_lanes::sum16;
+use record_message::sound_message_at;
+use record_message::token_sum;
+use spec_rack::BLOCK_COUNT_OFFSET;
 use spec_rack::BLOCK_SIZE;
 use spec_rack::BLOCKS_OFFSET;
+use spec_rack::BOARD_COUNT_OFFSET;
 use spec_rack::CLAIMS_OFFSET;
 use spec_rack::HEADER_SIZE;
+use spec_rack::MESH_LIMIT;
+use spec_rack::MESSAGE_BLOCK_OFFSET;
+use spec_rack::MESSAGE_COUNT_OFFSET;
+use spec_rack::MESSAGE_PLAIN_OFFSET;
 use spec_rack::MESSAGE_SIZE;
 use spec_rack::OWNER_OFFSET;
+use spec_rack::TOKEN_COUNT_OFFSET;
 
-// Whether the messages are fine; where they are, each block's weight in them is added to its sum.
+// Whether the messages are sound; if so, each block's tokens in flight are added to its sum.
 fn mesh_sound(rec: &[u8], boards: u8, blocks: u8, count: usize, sums: &mut [u32; 32]) -> bool
     requires { ⌜ (blocks ≤ 32) × (count ≤ 64) × (blocksOffset ≤ length (now rec)) × (now sums ≡ replicate 32 0) ⌝ }
     ensures fine { λ r. ⌜ r ≡ allBelow count (λ i. soundMessageAt boards blocks (now (rec .entry)) (messageOffset i)) ⌝ }
@@ -37,14 +44,14 @@ fn mesh_sound(rec: &[u8], boards: u8, blocks: u8, count: usize, sums: &mut [u32;
         if !sound_message_at(rec, at, boards, blocks) {
             return false;
         }
-        let block = rec[at + 2] as usize;
-        sums[block] = token_sum(rec, at + 3) + sums[block];
+        let block = rec[at + MESSAGE_BLOCK_OFFSET] as usize;
+        sums[block] = token_sum(rec, at + MESSAGE_PLAIN_OFFSET) + sums[block];
         i += 1;
     }
     true
 }
 
-// Whether the block at a place has T tokens with one owner, given the weight of its messages in flight.
+// Whether the block at `at` has T tokens, one of them the owner, given the token sum of its messages in flight.
 fn tokens_total(rec: &[u8], at: usize, tokens: u8, mesh: u32) -> bool
     requires { ⌜ (at + blockSize ≤ length (now rec)) × (mesh ≤ 1069563840) ⌝ }
     ensures { λ r. ⌜ r ≡ tokensTotal tokens (now (rec .entry)) at mesh ⌝ }
@@ -52,23 +59,44 @@ fn tokens_total(rec: &[u8], at: usize, tokens: u8, mesh: u32) -> bool
     sum16(rec, at) + sum16(rec, at + OWNER_OFFSET) * 65536 + mesh == wide(tokens) + 65535
 }
 
-// Whether the tokens and the claims of every block are sound.
+// Whether the claims of every block of a set are sound: the blocks in which a board is barred.
+fn barred_sound(rec: &[u8], boards: u8, blocks: u32) -> bool
+    requires { ⌜ (boards < 16) × ((k : ℕ) → member blocks k ≡ true → blockOffset k + blockSize ≤ length (now rec)) ⌝ }
+    ensures { λ r. ⌜ r ≡ allBelow 32 (λ b. implies (member blocks b) (soundClaimsAt boards (now (rec .entry)) (blockOffset b))) ⌝ }
+{
+    let mut left = blocks;
+    while 0 < left {
+        let b = block_set::choose(left);
+        let at = BLOCKS_OFFSET + BLOCK_SIZE * b;
+        if !arbiter::sound::sound_at(rec, at + CLAIMS_OFFSET, boards) {
+            return false;
+        }
+        left = block_set::remove(left, b);
+    }
+    true
+}
+
+// Whether the tokens and the claims of every block are sound. In most blocks no board is barred, and the waiting set alone decides; the other blocks are
+// put in a set, and only these are looked at again.
 fn sums_sound(rec: &[u8], boards: u8, tokens: u8, count: usize, sums: &[u32; 32]) -> bool
     requires { ⌜ (boards < 16) × (count ≤ 32) × (recordLength count ≤ length (now rec)) × ((k : ℕ) → k < 32 → getD (now sums) k 0 ≤ 1069563840) ⌝ }
     ensures { λ r. ⌜ r ≡ allBelow count (λ b. tokensTotal tokens (now (rec .entry)) (blockOffset b) (getD (now (sums .entry)) b 0) && soundClaimsAt boards (now (rec .entry)) (blockOffset b)) ⌝ }
 {
+    let mut barred: u32 = 0;
     let mut b: usize = 0;
     while b < count {
         let at = BLOCKS_OFFSET + BLOCK_SIZE * b;
         if !tokens_total(rec, at, tokens, sums[b]) {
             return false;
         }
-        if !arbiter::sound::sound_at(rec, at + CLAIMS_OFFSET, boards) {
+        if !arbiter::sound::only_boards_wait(rec, at + CLAIMS_OFFSET, boards) {
             return false;
         }
+        let some = arbiter::sound::some_barred(rec, at + CLAIMS_OFFSET);
+        barred = block_set::insert_if(barred, b, some);
         b += 1;
     }
-    true
+    barred_sound(rec, boards, barred)
 }
 
 // Whether every block is sound.
@@ -76,18 +104,17 @@ fn blocks_sound(rec: &[u8], boards: u8, tokens: u8, count: usize, sums: &[u32; 3
     requires { ⌜ (boards < 16) × (count ≤ 32) × (recordLength count ≤ length (now rec)) × ((k : ℕ) → k < 32 → getD (now sums) k 0 ≤ 1069563840) ⌝ }
     ensures { λ r. ⌜ r ≡ allBelow count (λ b. soundBlockAt boards tokens (now (rec .entry)) (blockOffset b) (getD (now (sums .entry)) b 0)) ⌝ }
 {
-    let summed = sums_sound(rec, boards, tokens, count, sums);
-    if !summed {
+    if !sums_sound(rec, boards, tokens, count, sums) {
         return false;
     }
-    both(
-        lanes::all_lanes_sound(rec, count),
-        lanes::unused_lanes_empty(rec, count, boards),
-    )
+    if !record_lanes::all_lanes_sound(rec, count) {
+        return false;
+    }
+    record_lanes::unused_lanes_empty(rec, count, boards)
 }
 
 // Whether the sizes are in range.
-fn sizes_fine(boards: u8, blocks: u8, tokens: u8) -> bool
+fn sizes_in_range(boards: u8, blocks: u8, tokens: u8) -> bool
     ensures { λ r. ⌜ r ≡ sizes boards blocks tokens ⌝ }
 {
     sizes::in_range(wide(boards), wide(blocks), wide(tokens))
@@ -100,11 +127,14 @@ pub fn sound(rec: &[u8]) -> bool
     if rec.len() < HEADER_SIZE {
         return false;
     }
-    let boards = rec[0];
-    let blocks = rec[1];
-    let tokens = rec[2];
-    let messages = rec[3];
-    if !both(sizes_fine(boards, blocks, tokens), messages <= 64) {
+    let boards = rec[BOARD_COUNT_OFFSET];
+    let blocks = rec[BLOCK_COUNT_OFFSET];
+    let tokens = rec[TOKEN_COUNT_OFFSET];
+    let messages = rec[MESSAGE_COUNT_OFFSET];
+    if !both(
+        sizes_in_range(boards, blocks, tokens),
+        messages <= MESH_LIMIT,
+    ) {
         return false;
     }
     let count = wide(blocks) as usize;

@@ -1,4 +1,4 @@
 pub mod Folds
-pub mod Placing
 pub mod Number
+pub mod Placing
 pub mod Layout

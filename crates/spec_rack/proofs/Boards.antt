@@ -12,7 +12,7 @@ use lib.Pow.{pow-pos, shr-shr, shr-lt, pow-mono}
 use Rattle.spec_base.specs.Folds.{toℕ, allBelow, implies}
 use Rattle.spec_base.proofs.Tests.{either, differs, same-or-not, lt-or-le, and-l, and-r, and-of, implied, implies-of}
 use Rattle.spec_base.proofs.Folds.{below-at, below-of, count-le, count-mono, count-more, count-none}
-use Rattle.spec_rack.specs.Boards.{places, bit, member, empty, insert, remove, subset, boardsOnly, firstFrom, lowest, size}
+use Rattle.spec_rack.specs.Boards.{boardRoom, bit, member, empty, insert, remove, subset, boardsOnly, firstFrom, lowest, size}
 
 -- ---- bits
 
@@ -219,13 +219,13 @@ remove-insert s i h =
 
 -- ---- subset
 
-pub subset-at : (a b : ℕ) → subset a b ≡ true → (i : ℕ) → i < places → member a i ≡ true → member b i ≡ true
+pub subset-at : (a b : ℕ) → subset a b ≡ true → (i : ℕ) → i < boardRoom → member a i ≡ true → member b i ≡ true
 unfolding subset
-subset-at a b h i l = implied (member a i) (member b i) (below-at (λ j. implies (member a j) (member b j)) places h i l)
+subset-at a b h i l = implied (member a i) (member b i) (below-at (λ j. implies (member a j) (member b j)) boardRoom h i l)
 
-pub subset-of : (a b : ℕ) → ((i : ℕ) → i < places → member a i ≡ true → member b i ≡ true) → subset a b ≡ true
+pub subset-of : (a b : ℕ) → ((i : ℕ) → i < boardRoom → member a i ≡ true → member b i ≡ true) → subset a b ≡ true
 unfolding subset
-subset-of a b f = below-of (λ j. implies (member a j) (member b j)) places (λ i l. implies-of (member a i) (member b i) (f i l))
+subset-of a b f = below-of (λ j. implies (member a j) (member b j)) boardRoom (λ i l. implies-of (member a i) (member b i) (f i l))
 
 pub subset-refl : (a : ℕ) → subset a a ≡ true
 subset-refl a = subset-of a a (λ i l m. m)
@@ -237,9 +237,9 @@ pub subset-empty : (b : ℕ) → subset empty b ≡ true
 subset-empty b = subset-of empty b (λ i l m. differs (sym m ∙ member-empty i))
 
 -- only the empty set lies within the empty set
-pub empty-subset : (a : ℕ) → a < 2 ^ places → subset a empty ≡ true → a ≡ empty
+pub empty-subset : (a : ℕ) → a < 2 ^ boardRoom → subset a empty ≡ true → a ≡ empty
 empty-subset a h p =
-    empty-of places a h (λ i l. ⊎-elim (λ m. differs (sym (subset-at a empty p i l m) ∙ member-empty i)) (λ m. m) (either (member a i)))
+    empty-of boardRoom a h (λ i l. ⊎-elim (λ m. differs (sym (subset-at a empty p i l m) ∙ member-empty i)) (λ m. m) (either (member a i)))
 
 pub subset-insert : (a b i : ℕ) → subset a b ≡ true → subset a (insert b i) ≡ true
 subset-insert a b i p = subset-of a (insert b i) (λ j l m. insert-keeps b i j (subset-at a b p j l m))
@@ -257,40 +257,40 @@ remove-subset a i = subset-of (remove a i) a (λ j l m. remove-was a i j m .0)
 abbrev board : ℕ → ℕ → ℕ → Bool
 board n s i = implies (member s i) (leb 1 i && leb i n)
 
-pub boards-lt : (n s : ℕ) → boardsOnly n s ≡ true → s < 2 ^ places
+pub boards-lt : (n s : ℕ) → boardsOnly n s ≡ true → s < 2 ^ boardRoom
 unfolding boardsOnly
-boards-lt n s h = ltb-true s (2 ^ places) (and-l (ltb s (2 ^ places)) (allBelow places (board n s)) h)
+boards-lt n s h = ltb-true s (2 ^ boardRoom) (and-l (ltb s (2 ^ boardRoom)) (allBelow boardRoom (board n s)) h)
 
 pub boards-at : (n s : ℕ) → boardsOnly n s ≡ true → (i : ℕ) → member s i ≡ true → (1 ≤ i) × (i ≤ n)
 unfolding boardsOnly
 boards-at n s h i m =
-    let l = member-lt places s i (boards-lt n s h) m in
-    let b = implied (member s i) (leb 1 i && leb i n) (below-at (board n s) places (and-r (ltb s (2 ^ places)) (allBelow places (board n s)) h) i l) m in
+    let l = member-lt boardRoom s i (boards-lt n s h) m in
+    let b = implied (member s i) (leb 1 i && leb i n) (below-at (board n s) boardRoom (and-r (ltb s (2 ^ boardRoom)) (allBelow boardRoom (board n s)) h) i l) m in
     (leb-true 1 i (and-l (leb 1 i) (leb i n) b), leb-true i n (and-r (leb 1 i) (leb i n) b))
 
-pub boards-of : (n s : ℕ) → s < 2 ^ places → ((i : ℕ) → member s i ≡ true → (1 ≤ i) × (i ≤ n)) → boardsOnly n s ≡ true
+pub boards-of : (n s : ℕ) → s < 2 ^ boardRoom → ((i : ℕ) → member s i ≡ true → (1 ≤ i) × (i ≤ n)) → boardsOnly n s ≡ true
 unfolding boardsOnly
 boards-of n s h f =
-    and-of (ltb s (2 ^ places)) (allBelow places (board n s)) (lt-ltb s (2 ^ places) h)
-    (below-of (board n s) places (λ i l. implies-of (member s i) (leb 1 i && leb i n)
+    and-of (ltb s (2 ^ boardRoom)) (allBelow boardRoom (board n s)) (lt-ltb s (2 ^ boardRoom) h)
+    (below-of (board n s) boardRoom (λ i l. implies-of (member s i) (leb 1 i && leb i n)
     (λ m. let w = f i m in and-of (leb 1 i) (leb i n) (le-leb 1 i (w .0)) (le-leb i n (w .1)))))
 
 pub boards-empty : (n : ℕ) → boardsOnly n empty ≡ true
 boards-empty n = boards-of n empty (omega arith) (λ i m. differs (sym m ∙ member-empty i))
 
-pub boards-insert : (n s i : ℕ) → i < places → 1 ≤ i → i ≤ n → boardsOnly n s ≡ true → boardsOnly n (insert s i) ≡ true
+pub boards-insert : (n s i : ℕ) → i < boardRoom → 1 ≤ i → i ≤ n → boardsOnly n s ≡ true → boardsOnly n (insert s i) ≡ true
 boards-insert n s i l toℕ top h =
-    boards-of n (insert s i) (insert-lt places s i l (boards-lt n s h))
+    boards-of n (insert s i) (insert-lt boardRoom s i l (boards-lt n s h))
     (λ j m. ⊎-elim (λ (e : j ≡ i). (omega arith, omega arith))
     (λ ne. boards-at n s h j (sym (insert-other s i j ne) ∙ m)) (same-or-not j i))
 
 pub boards-remove : (n s i : ℕ) → boardsOnly n s ≡ true → boardsOnly n (remove s i) ≡ true
 boards-remove n s i h =
-    boards-of n (remove s i) (remove-lt places s i (boards-lt n s h)) (λ j m. boards-at n s h j (remove-was s i j m .0))
+    boards-of n (remove s i) (remove-lt boardRoom s i (boards-lt n s h)) (λ j m. boards-at n s h j (remove-was s i j m .0))
 
-pub boards-subset : (n a b : ℕ) → a < 2 ^ places → subset a b ≡ true → boardsOnly n b ≡ true → boardsOnly n a ≡ true
+pub boards-subset : (n a b : ℕ) → a < 2 ^ boardRoom → subset a b ≡ true → boardsOnly n b ≡ true → boardsOnly n a ≡ true
 boards-subset n a b l p h =
-    boards-of n a l (λ i m. boards-at n b h i (subset-at a b p i (member-lt places a i l m) m))
+    boards-of n a l (λ i m. boards-at n b h i (subset-at a b p i (member-lt boardRoom a i l m) m))
 
 pub boards-no-home : (n s : ℕ) → boardsOnly n s ≡ true → member s 0 ≡ false
 boards-no-home n s h =
@@ -299,10 +299,10 @@ boards-no-home n s h =
 -- such a set is an even number below 2 ^ (n + 1), and the other way round
 pub boards-top : (n s : ℕ) → boardsOnly n s ≡ true → s < 2 ^ suc n
 boards-top n s h =
-    lt-of-none (suc n) places s (boards-lt n s h)
+    lt-of-none (suc n) boardRoom s (boards-lt n s h)
     (λ i p q. ⊎-elim (λ (m : member s i ≡ true). absurd (omega (arith, boards-at n s h i m .1))) (λ m. m) (either (member s i)))
 
-pub boards-from : (n s : ℕ) → s < 2 ^ places → member s 0 ≡ false → s < 2 ^ suc n → boardsOnly n s ≡ true
+pub boards-from : (n s : ℕ) → s < 2 ^ boardRoom → member s 0 ≡ false → s < 2 ^ suc n → boardsOnly n s ≡ true
 boards-from n s l z h =
     boards-of n s l (λ i m. let top = member-lt (suc n) s i h m in
     (⊎-elim (λ (e : i ≡ 0). differs (sym m ∙ ap (member s) e ∙ z)) (λ (e : i ≡ 0 → ⊥). omega arith) (same-or-not i 0), omega arith))
@@ -341,43 +341,43 @@ first-least (suc k) s i j l h =
     (same-or-not j i))
     (either (member s i))
 
-pub lowest-le : (s : ℕ) → lowest s ≤ places
+pub lowest-le : (s : ℕ) → lowest s ≤ boardRoom
 unfolding lowest
-lowest-le s = first-le places s 0
+lowest-le s = first-le boardRoom s 0
 
-pub lowest-member : (s : ℕ) → lowest s < places → member s (lowest s) ≡ true
+pub lowest-member : (s : ℕ) → lowest s < boardRoom → member s (lowest s) ≡ true
 unfolding lowest
-lowest-member s l = first-member places s 0 l
+lowest-member s l = first-member boardRoom s 0 l
 
 pub lowest-least : (s j : ℕ) → j < lowest s → member s j ≡ false
 unfolding lowest
-lowest-least s j l = first-least places s 0 j (omega arith) l
+lowest-least s j l = first-least boardRoom s 0 j (omega arith) l
 
 -- no member is lower
 pub lowest-under : (s j : ℕ) → member s j ≡ true → lowest s ≤ j
 lowest-under s j m = ⊎-elim (λ (l : j < lowest s). differs (sym m ∙ lowest-least s j l)) (λ (l : lowest s ≤ j). l) (lt-or-le j (lowest s))
 
 -- a member below which there is none is the lowest
-pub lowest-is : (s i : ℕ) → i < places → member s i ≡ true → ((j : ℕ) → j < i → member s j ≡ false) → lowest s ≡ i
+pub lowest-is : (s i : ℕ) → i < boardRoom → member s i ≡ true → ((j : ℕ) → j < i → member s j ≡ false) → lowest s ≡ i
 lowest-is s i l m f =
     let top = lowest-under s i m in
     ⊎-elim (λ (q : lowest s < i). differs (sym (lowest-member s (omega arith)) ∙ f (lowest s) q)) (λ (q : i ≤ lowest s). omega arith)
     (lt-or-le (lowest s) i)
 
-pub lowest-empty : lowest empty ≡ places
+pub lowest-empty : lowest empty ≡ boardRoom
 lowest-empty =
-    ⊎-elim (λ (l : lowest empty < places). differs (sym (lowest-member empty l) ∙ member-empty (lowest empty)))
-    (λ (l : places ≤ lowest empty). omega (arith, lowest-le empty)) (lt-or-le (lowest empty) places)
+    ⊎-elim (λ (l : lowest empty < boardRoom). differs (sym (lowest-member empty l) ∙ member-empty (lowest empty)))
+    (λ (l : boardRoom ≤ lowest empty). omega (arith, lowest-le empty)) (lt-or-le (lowest empty) boardRoom)
 
-pub lowest-none : (s : ℕ) → s < 2 ^ places → lowest s ≡ places → s ≡ empty
-lowest-none s h e = empty-of places s h (λ i l. lowest-least s i (omega arith))
+pub lowest-none : (s : ℕ) → s < 2 ^ boardRoom → lowest s ≡ boardRoom → s ≡ empty
+lowest-none s h e = empty-of boardRoom s h (λ i l. lowest-least s i (omega arith))
 
-pub lowest-lt : (s : ℕ) → s < 2 ^ places → (s ≡ empty → ⊥) → lowest s < places
+pub lowest-lt : (s : ℕ) → s < 2 ^ boardRoom → (s ≡ empty → ⊥) → lowest s < boardRoom
 lowest-lt s h ne =
-    ⊎-elim (λ (l : lowest s < places). l) (λ (l : places ≤ lowest s). absurd (ne (lowest-none s h (omega (arith, lowest-le s)))))
-    (lt-or-le (lowest s) places)
+    ⊎-elim (λ (l : lowest s < boardRoom). l) (λ (l : boardRoom ≤ lowest s). absurd (ne (lowest-none s h (omega (arith, lowest-le s)))))
+    (lt-or-le (lowest s) boardRoom)
 
-pub lowest-insert : (s i : ℕ) → i < places → lowest (insert s i) ≡ min (lowest s) i
+pub lowest-insert : (s i : ℕ) → i < boardRoom → lowest (insert s i) ≡ min (lowest s) i
 lowest-insert s i l =
     ⊎-elim
     (λ (q : lowest s < i). lowest-is (insert s i) (lowest s) (omega arith) (insert-keeps s i (lowest s) (lowest-member s (omega arith)))
@@ -387,7 +387,7 @@ lowest-insert s i l =
     (lt-or-le (lowest s) i)
 
 -- a removal of another board leaves the lowest
-pub lowest-remove : (s i : ℕ) → lowest s < places → (lowest s ≡ i → ⊥) → lowest (remove s i) ≡ lowest s
+pub lowest-remove : (s i : ℕ) → lowest s < boardRoom → (lowest s ≡ i → ⊥) → lowest (remove s i) ≡ lowest s
 lowest-remove s i l ne =
     lowest-is (remove s i) (lowest s) l (remove-other s i (lowest s) ne ∙ lowest-member s l)
     (λ j h. ⊎-elim (λ (m : member (remove s i) j ≡ true). differs (sym (remove-was s i j m .0) ∙ lowest-least s j h)) (λ m. m)
@@ -395,23 +395,23 @@ lowest-remove s i l ne =
 
 -- ---- the number of members
 
-pub size-insert : (s i : ℕ) → i < places → member s i ≡ false → size (insert s i) ≡ suc (size s)
+pub size-insert : (s i : ℕ) → i < boardRoom → member s i ≡ false → size (insert s i) ≡ suc (size s)
 unfolding size
-size-insert s i l h = count-more (member s) (member (insert s i)) i h (insert-same s i) (insert-other s i) places l
+size-insert s i l h = count-more (member s) (member (insert s i)) i h (insert-same s i) (insert-other s i) boardRoom l
 
-pub size-remove : (s i : ℕ) → i < places → member s i ≡ true → suc (size (remove s i)) ≡ size s
+pub size-remove : (s i : ℕ) → i < boardRoom → member s i ≡ true → suc (size (remove s i)) ≡ size s
 unfolding size
 size-remove s i l h =
-    sym (count-more (member (remove s i)) (member s) i (remove-same s i) h (λ j ne. sym (remove-other s i j ne)) places l)
+    sym (count-more (member (remove s i)) (member s) i (remove-same s i) h (λ j ne. sym (remove-other s i j ne)) boardRoom l)
 
 pub size-empty : size empty ≡ 0
 unfolding size
-size-empty = count-none (member empty) places (λ i l. member-empty i)
+size-empty = count-none (member empty) boardRoom (λ i l. member-empty i)
 
 pub size-subset : (a b : ℕ) → subset a b ≡ true → size a ≤ size b
 unfolding size
-size-subset a b p = count-mono (member a) (member b) places (subset-at a b p)
+size-subset a b p = count-mono (member a) (member b) boardRoom (subset-at a b p)
 
-pub size-le : (s : ℕ) → size s ≤ places
+pub size-le : (s : ℕ) → size s ≤ boardRoom
 unfolding size
-size-le s = count-le (member s) places
+size-le s = count-le (member s) boardRoom

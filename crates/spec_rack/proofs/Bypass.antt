@@ -13,7 +13,7 @@ use Rattle.spec_base.specs.Folds.{toℕ, all, countBelow}
 use Rattle.spec_base.proofs.Tests.{either, same-or-not, lt-or-le, and-l, and-r, and-left, and-right}
 use Rattle.spec_base.proofs.Folds.{count-none, count-all, count-same, count-mono, count-more}
 use Rattle.spec_wire.specs.declared.Check.{Check}
-use Rattle.spec_rack.specs.Boards.{places, member}
+use Rattle.spec_rack.specs.Boards.{boardRoom, member}
 use Rattle.spec_rack.specs.Claims.{Claims, waiting, barring, raised, lowered}
 use Rattle.spec_rack.specs.Bypass.{Move, mover, moved, settled, claimsAfterMove, claimsAfter, lowersCounted, lowers, boardMoves, only, others, Bypass}
 use Rattle.spec_rack.specs.Bypass.Move.{raise, lower}
@@ -44,12 +44,12 @@ first-move n m ms h =
 abbrev Kept : ℕ → Claims → Claims → Check → Type 0
 Kept n c d k = SoundClaims n (settled k c d)
 
-made-sound : (n : ℕ) (c : Claims) (m : Move) → n < places → 1 ≤ mover m → mover m ≤ n → SoundClaims n c → SoundClaims n (claimsAfterMove c m)
+made-sound : (n : ℕ) (c : Claims) (m : Move) → n < boardRoom → 1 ≤ mover m → mover m ≤ n → SoundClaims n c → SoundClaims n (claimsAfterMove c m)
 made-sound n c (raise i) fits low high s =
     raise-elim c i (Kept n c (raised c i)) (λ r. s) (λ w b. raised-sound s low high fits (raise-pass c i w b))
 made-sound n c (lower i) fits low high s = lower-elim c i (Kept n c (lowered c i)) (λ r. s) (λ w. lowered-sound s low high)
 
-after-sound : (n : ℕ) (ms : List Move) (c : Claims) → n < places → boardMoves n ms ≡ true → SoundClaims n c → SoundClaims n (claimsAfter c ms)
+after-sound : (n : ℕ) (ms : List Move) (c : Claims) → n < boardRoom → boardMoves n ms ≡ true → SoundClaims n c → SoundClaims n (claimsAfter c ms)
 unfolding claimsAfter
 after-sound n [] c fits b s = s
 after-sound n (m ∷ ms) c fits b s =
@@ -58,7 +58,7 @@ after-sound n (m ∷ ms) c fits b s =
 
 -- ---- the boards that may still lower before p
 
-module _ (n p : ℕ) (fits : n < places) (t : ℕ → Bool) where
+module _ (n p : ℕ) (fits : n < boardRoom) (t : ℕ → Bool) where
   -- board k + 1 passes the test and p does not bar it
   abbrev rival : Claims → ℕ → Bool
   rival c k = t (suc k) && not (member (barring c (suc k)) p)

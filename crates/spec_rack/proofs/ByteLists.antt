@@ -1,7 +1,7 @@
 -- Demand 3 of byte strings: a sound record stays sound, and its rack goes as the abstract rack goes by those strings that are steps;
 -- so the claim on lists of steps is one on lists of byte strings.
 use Prim.Native.Nat.{ℕ, _^_}
-use mathlib.Core.Path.{_≡_, refl, sym, ap, ap₂, _∙_, subst}
+use mathlib.Core.Path.{_≡_, refl, sym, ap, _∙_, subst}
 use mathlib.Core.Bool.{Bool, true, false, cond}
 use mathlib.Core.List.{List, [], _∷_, _++_}
 use borrow.Author.Tests.{ltb-true}
@@ -17,16 +17,14 @@ use Rattle.spec_wire.specs.Kinds.{kindOf, fieldArray, inBounds, stepInBounds}
 use Rattle.spec_wire.specs.Reader.{readRecord}
 use Rattle.spec_wire.proofs.RoundTrip.{read-fits}
 use Rattle.spec_rack.specs.Rack.{Rack}
-use Rattle.spec_rack.specs.Rules.{Outcome, refused, accepted, rules}
-use Rattle.spec_rack.specs.FlatMemory.{rackAfter, reply, run}
-use Rattle.spec_rack.specs.FlatMemory as Rack
+use Rattle.spec_rack.specs.Rules.{Outcome, refused, accepted, rules, rackAfter, reply}
+use Rattle.spec_rack.specs.Lists.{run, runAll, answersOf, accessesOf, rackAnswers, rackAccesses, stepIn, stepsOf, accessIn, after, answered, handed, answers, accesses}
 use Rattle.spec_rack.proofs.StepPreservation.{Kept, Keeps, StepFits, step-keeps}
+use Rattle.spec_rack.specs.FlatMemory.{Access, accessOf}
 use Rattle.spec_rack.specs.RecordLayout.{get}
 use Rattle.spec_rack.specs.Soundness.{soundBytes}
 use Rattle.spec_rack.proofs.SoundRecord.{Live, live-of, sound-of, put-is, put-live}
-use Rattle.spec_rack.specs.Entries.{bufferAfterOutcome}
-use Rattle.spec_rack.specs.Entries.{outcome, stepReply, stepAfter}
-use Rattle.spec_rack.specs.Lists.{stepIn, stepsOf, after, answered, handed, answers, accesses}
+use Rattle.spec_rack.specs.Entries.{bufferAfterOutcome, outcome, stepReply, stepAfter}
 
 -- a step that was read has a value of 32 bits
 pub step-fits : (t : Step) → stepInBounds t ≡ true → StepFits t
@@ -42,19 +40,19 @@ step-fits (Forward c b) h = tt
 -- ---- one step on a live record
 
 -- an outcome on the bytes s as the rules have it: the record stays live, and its rack is the one after it
-record Goes (s : List ℕ) (o : Outcome) : Type 0 where
-  live : Live (bufferAfterOutcome s o)
-  rack : get (bufferAfterOutcome s o) ≡ rackAfter (get s) o
+pub record Goes (s : List ℕ) (o : Outcome) : Type 0 where
+  pub live : Live (bufferAfterOutcome s o)
+  pub rack : get (bufferAfterOutcome s o) ≡ rackAfter (get s) o
 
-goes : (s : List ℕ) → Live s → (t : Step) → StepFits t → Goes s (rules (get s) t)
-goes s live t inBounds = go (rules (get s) t) (step-keeps (get s) (live .sound) t)
+pub goes : (s : List ℕ) → Live s → (t : Step) → StepFits t → Goes s (rules (get s) t)
+goes s live t fits = go (rules (get s) t) (step-keeps (get s) (live .sound) t)
   where
     go : (o : Outcome) → Keeps (Kept (get s) t) o → Goes s o
     go (refused n) k = record { live = live; rack = refl }
     go (accepted a r) k =
         record {
-          live = put-live s live r (k .sound) (k .fits inBounds (live .fits)) (k .count);
-          rack = put-is s live r (k .sound) (k .fits inBounds (live .fits)) (k .count);
+          live = put-live s live r (k .sound) (k .fits fits (live .fits)) (k .count);
+          rack = put-is s live r (k .sound) (k .fits fits (live .fits)) (k .count);
         }
 
 pub outcome-read : (s : List ℕ) → Live s → (t : Step) → outcome (Read t) s ≡ rules (get s) t
@@ -75,33 +73,24 @@ module _ (s : List ℕ) (bytes : Bytes s) where
   unfolding stepAfter
   sound-kept b = outcome-kept (readRecord b) (λ t e. step-fits t (read-fits b t e))
 
--- what an outcome gives, as the rack has it
-same-answered : (o : Outcome) → answered (reply o) ≡ Rack.answered o
-same-answered (refused n) = refl
-same-answered (accepted a r) = refl
-
-same-handed : (o : Outcome) (t : Step) → handed (reply o) (Read t) ≡ Rack.handed o t
-same-handed (refused n) t = refl
-same-handed (accepted a r) t = refl
-
 -- ---- a list on a live record
 
 -- what a list leaves and gives, as the rack has it
 pub record Runs (s : List ℕ) (bs : List (List ℕ)) : Type 0 where
   pub live : Live (after s bs)
   pub rack : get (after s bs) ≡ run (get s) (stepsOf bs)
-  pub answers : answers s bs ≡ Rack.answers (get s) (stepsOf bs)
-  pub accesses : accesses s bs ≡ Rack.accesses (get s) (stepsOf bs)
+  pub answers : answers s bs ≡ rackAnswers (get s) (stepsOf bs)
+  pub accesses : accesses s bs ≡ rackAccesses (get s) (stepsOf bs)
 
 -- the same where the first string was read as k, with the outcome o
 record First (s : List ℕ) (k : Reading) (o : Outcome) (bs : List (List ℕ)) : Type 0 where
   live : Live (after (bufferAfterOutcome s o) bs)
   rack : get (after (bufferAfterOutcome s o) bs) ≡ run (get s) (stepIn k ++ stepsOf bs)
-  answers : answered (reply o) ++ answers (bufferAfterOutcome s o) bs ≡ Rack.answers (get s) (stepIn k ++ stepsOf bs)
-  accesses : handed (reply o) k ++ accesses (bufferAfterOutcome s o) bs ≡ Rack.accesses (get s) (stepIn k ++ stepsOf bs)
+  answers : answered (reply o) ++ answers (bufferAfterOutcome s o) bs ≡ rackAnswers (get s) (stepIn k ++ stepsOf bs)
+  accesses : handed (reply o) (accessIn k) ++ accesses (bufferAfterOutcome s o) bs ≡ rackAccesses (get s) (stepIn k ++ stepsOf bs)
 
 pub runs : (bs : List (List ℕ)) (s : List ℕ) → Live s → Runs s bs
-unfolding after answers accesses run Rack.answers Rack.accesses stepReply stepAfter
+unfolding runAll answersOf accessesOf stepReply stepAfter
 runs [] s live = record { live = live; rack = refl; answers = refl; accesses = refl }
 runs (b ∷ bs) s live =
     let f = by-reading (λ q l. runs bs q l) (readRecord b) (λ t e. step-fits t (read-fits b t e)) in
@@ -114,8 +103,8 @@ runs (b ∷ bs) s live =
         record {
           live = i .live;
           rack = i .rack ∙ ap (λ (r : Rack). run r (stepsOf bs)) (g .rack);
-          answers = ap₂ _++_ (same-answered o) (i .answers ∙ ap (λ (r : Rack). Rack.answers r (stepsOf bs)) (g .rack));
-          accesses = ap₂ _++_ (same-handed o t) (i .accesses ∙ ap (λ (r : Rack). Rack.accesses r (stepsOf bs)) (g .rack));
+          answers = ap (λ (l : List ℕ). answered (reply o) ++ l) (i .answers ∙ ap (λ (r : Rack). rackAnswers r (stepsOf bs)) (g .rack));
+          accesses = ap (λ (l : List Access). handed (reply o) (accessOf t) ++ l) (i .accesses ∙ ap (λ (r : Rack). rackAccesses r (stepsOf bs)) (g .rack));
         }
 
     by-reading : ((q : List ℕ) → Live q → Runs q bs) → (k : Reading) → ((t : Step) → k ≡ Read t → StepFits t) → First s k (outcome k s) bs

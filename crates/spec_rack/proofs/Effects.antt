@@ -18,26 +18,20 @@ use Rattle.spec_wire.specs.declared.Reading.the-variants.{Step as Read, Refused
 use Rattle.spec_wire.specs.Reader.{readRecord}
 use Rattle.spec_wire.proofs.RoundTrip.{read-fits}
 use Rattle.spec_rack.specs.declared.Answer.{Answer}
-use Rattle.spec_rack.specs.declared.Answer.the-variants.{Done}
-use Rattle.spec_rack.specs.declared.Reply.{Reply}
 use Rattle.spec_rack.specs.declared.Reply.the-variants.{Accepted, Refused}
 use Rattle.spec_rack.specs.Rack.{Rack}
-use Rattle.spec_rack.specs.Rules.{Outcome, refused, accepted, rules}
-use Rattle.spec_rack.specs.FlatMemory.{reply}
+use Rattle.spec_rack.specs.Rules.{Outcome, refused, accepted, rules, reply, replyOf}
 use Rattle.spec_rack.proofs.StepPreservation.{Kept, Keeps, StepFits, step-keeps}
 use Rattle.spec_rack.specs.RecordLayout.{recordLength, get, put}
 use Rattle.spec_rack.specs.Soundness.{soundBytes}
 use Rattle.spec_rack.proofs.GetPut.{boards-is, tokens-is, blocks-is}
 use Rattle.spec_rack.proofs.SoundRecord.{Live, live-of, sound-of, put-is, put-rest, put-live}
-use Rattle.spec_rack.specs.Opening.{openCheck, openReply, openAfter}
-use Rattle.spec_rack.specs.Rules.{replyOf}
+use Rattle.spec_rack.specs.Opening.{openCheck, openReply}
 use Rattle.spec_rack.proofs.OpeningLaws.{passes, open-refused, open-get, open-length, open-behind, open-sound}
-use Rattle.spec_rack.specs.Entries.{bufferAfterOutcome}
-use Rattle.spec_rack.specs.Entries.{outcome, stepReply, stepAfter}
-use Rattle.spec_rack.specs.Lists.{after}
+use Rattle.spec_rack.specs.Entries.{bufferAfterOutcome, outcome, stepReply, stepAfter}
+use Rattle.spec_rack.specs.Lists.{runAll, after, framesFrom}
 use Rattle.spec_rack.proofs.ByteLists.{step-fits, outcome-read, runs}
-use Rattle.spec_rack.specs.Lists.{framesFrom}
-use Rattle.spec_rack.specs.Effects.{EveryRun, Behind, Steady, AcceptedAs, StepLeaves, EveryStep, ListLeaves, EveryList, OpenedAs, OpeningLeaves, EveryOpening}
+use Rattle.spec_rack.specs.Effects.{EveryRun, Steady, StepLeaves, EveryStep, EveryList, EveryOpening}
 
 not-both : {A : Type 0} {a : Answer} {n : Refusal} → Accepted a ≡ Refused n → A
 not-both e = let z : _≡_ {A = ℕ} 0 1 = cc in absurd (omega arith)
@@ -131,13 +125,13 @@ every-step s bytes h = by-reading s bytes h (readRecord bytes) refl
 -- ---- a list
 
 list-steady : (steps : List (List ℕ)) (s : List ℕ) → Live s → Steady s (after s steps)
-unfolding after
+unfolding runAll
 list-steady [] s live = steady-same s
 list-steady (b ∷ bs) s live =
     steady-then s (stepAfter s b) (after (stepAfter s b) bs) (every-step s b (live .wellFormed .bytes) .steady) (list-steady bs (stepAfter s b) (runs (b ∷ []) s live .live))
 
 list-unsound : (steps : List (List ℕ)) (s : List ℕ) → soundBytes s ≡ false → after s steps ≡ s
-unfolding after
+unfolding runAll
 list-unsound [] s bad = refl
 list-unsound (b ∷ bs) s bad = ap (λ (q : List ℕ). after q bs) (step-unsound s b bad) ∙ list-unsound bs s bad
 

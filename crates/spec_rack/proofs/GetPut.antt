@@ -20,11 +20,10 @@ use Rattle.spec_base.proofs.Places.{Place, within, first, second, item, write-b
 use Rattle.spec_base.proofs.Padded.{room-lawful, padded-place}
 use Rattle.spec_base.proofs.Lanes.{zip-length, zip-at, map-set, length-lane, Spread, place-iso, spread-place, spread-within, spread-as, spread-iso, spread-pair, over-both, spread-zipped, spread-byte, spread-flag, set-first, over-set, over-none, over-three}
 use Rattle.spec_rack.specs.Claims.{Claims}
-use Rattle.spec_rack.specs.RecordLayout.{claims}
+use Rattle.spec_rack.specs.RecordLayout.{claims, headerSize, blockSize, blockOffset, ownerOffset, validOffset, wordsOffset, wordsSize, Tokens, tokens, words, message, tokenLanes, toCell, cellTokens, toBlock, fromBlock, block, header, RackFields, rackLayout, recordLength, toRack, fromRack, layoutOf, get, put, blocksIn, boardsIn, claimsOffset, claimsRoom, messagesIn, tokensIn, meshRoom}
 use Rattle.spec_rack.specs.declared.Message.{Message}
 use Rattle.spec_rack.specs.Rack.{Cell, Block, Rack, zeros, noCell, noBlock, blockAt}
 use Rattle.spec_rack.specs.Rules.{changed}
-use Rattle.spec_rack.specs.RecordLayout.{headerSize, blockSize, blockOffset, ownerOffset, validOffset, wordsOffset, wordsSize, Tokens, tokens, words, message, tokenLanes, toCell, cellTokens, toBlock, fromBlock, block, header, RackFields, rackLayout, recordLength, toRack, fromRack, layoutOf, get, put}
 use Rattle.spec_rack.specs.Soundness.{wellFormedRecord}
 use Rattle.spec_rack.proofs.LayoutParts.{WordsFit, ClaimsFit, MessageFits, BlockFits, HeaderFits, words-size, lanes-size, claims-size, message-size, block-size, header-size, words-lawful, message-lawful, lanes-lawful, claims-lawful, blockTokens, blockClaims, blockWords, block-tokens-lawful, block-claims-lawful, block-words-lawful, block-lawful, header-lawful, cells-tokens, cells-words}
 
@@ -33,32 +32,32 @@ use Rattle.spec_rack.proofs.LayoutParts.{WordsFit, ClaimsFit, MessageFi
 abbrev first-four : Layout (ℕ × (ℕ × (ℕ × ℕ)))
 first-four = pair byte (pair byte (pair byte byte))
 
-four-read : (s : List ℕ) → first-four .read (take 4 s) ≡ (getD s 0 0, (getD s 1 0, (getD s 2 0, getD s 3 0)))
+four-read : (s : List ℕ) → first-four .read (take 4 s) ≡ (boardsIn s, (blocksIn s, (tokensIn s, messagesIn s)))
 four-read [] = refl
 four-read (n ∷ []) = refl
 four-read (n ∷ b ∷ []) = refl
 four-read (n ∷ b ∷ t ∷ []) = refl
 four-read (n ∷ b ∷ t ∷ m ∷ s) = refl
 
-pub header-read : (s : List ℕ) → header .read (take (header .size) s) ≡ (getD s 0 0, (getD s 1 0, (getD s 2 0, getD s 3 0)))
+pub header-read : (s : List ℕ) → header .read (take (header .size) s) ≡ (boardsIn s, (blocksIn s, (tokensIn s, messagesIn s)))
 unfolding header
-header-read s = ap (first-four .read) (take-take 4 32 s (omega arith)) ∙ four-read s
+header-read s = ap (first-four .read) (take-take 4 headerSize s (omega arith)) ∙ four-read s
 
 -- the count has a place of its own
-pub count-write : (s : List ℕ) (m : ℕ) → Bytes s → 32 ≤ length s
-    → header .write (getD s 0 0, (getD s 1 0, (getD s 2 0, m))) (take (header .size) s) ≡ set (take (header .size) s) 3 m
+pub count-write : (s : List ℕ) (m : ℕ) → Bytes s → headerSize ≤ length s
+    → header .write (boardsIn s, (blocksIn s, (tokensIn s, m))) (take (header .size) s) ≡ set (take (header .size) s) 3 m
 unfolding header
 count-write s m h l =
-    let lt : length (take 32 s) ≡ 32 = length-take-le 32 s l in
+    let lt : length (take headerSize s) ≡ headerSize = length-take-le headerSize s l in
     let four-law = pair-lawful byte (pair byte (pair byte byte)) byte-lawful (pair-lawful byte (pair byte byte) byte-lawful (pair-lawful byte byte byte-lawful byte-lawful)) in
     let three-law = pair-lawful byte (pair byte byte) byte-lawful (pair-lawful byte byte byte-lawful byte-lawful) in
     let place =
-    within (padded-place room (λ k. refl) room-lawful 32 first-four four-law (omega arith))
+    within (padded-place room (λ k. refl) room-lawful headerSize first-four four-law (omega arith))
     (within (second byte (pair byte (pair byte byte)) byte-lawful three-law)
     (within (second byte (pair byte byte) byte-lawful (pair-lawful byte byte byte-lawful byte-lawful)) (second byte byte byte-lawful byte-lawful))) in
-    ap (λ (v : ℕ × (ℕ × (ℕ × ℕ))). header .write (v .0, (v .1 .0, (v .1 .1 .0, m))) (take 32 s)) (sym (header-read s))
-    ∙ place .changes m (take 32 s) (record { bytes = bytes-take 32 s h; wellFormed = refl; room = le-of-eq (sym lt) })
-    ∙ sym (write-byte 3 m (take 32 s) (omega arith))
+    ap (λ (v : ℕ × (ℕ × (ℕ × ℕ))). header .write (v .0, (v .1 .0, (v .1 .1 .0, m))) (take headerSize s)) (sym (header-read s))
+    ∙ place .changes m (take headerSize s) (record { bytes = bytes-take headerSize s h; wellFormed = refl; room = le-of-eq (sym lt) })
+    ∙ sym (write-byte 3 m (take headerSize s) (omega arith))
 
 -- ---- the whole
 
@@ -73,28 +72,28 @@ module _ (n b m : ℕ) where
       (λ i. header-size i + (64 * message-size i + b * block-size n i)) ∙ omega arith
 
   module _ (hn : n ≤ 15) (hm : m ≤ 64) where
-    mesh-law : Lawful (items message 64 m) (Items MessageFits m)
+    mesh-law : Lawful (items message meshRoom m) (Items MessageFits m)
     mesh-law = items-lawful message message-lawful 64 m hm
 
     blocks-law : Lawful (items (block n) b b) (Items (BlockFits n) b)
     blocks-law = items-lawful (block n) (block-lawful n hn) b b (le-refl b)
 
-    body-law : Lawful (pair (items message 64 m) (items (block n) b b)) (λ v. Items MessageFits m (v .0) × Items (BlockFits n) b (v .1))
+    body-law : Lawful (pair (items message meshRoom m) (items (block n) b b)) (λ v. Items MessageFits m (v .0) × Items (BlockFits n) b (v .1))
     body-law = pair-lawful _ _ mesh-law blocks-law
 
     pub figures-lawful : Lawful (rackLayout n b m) (FiguresFit n b m)
     unfolding rackLayout
-    figures-lawful = pair-lawful header (pair (items message 64 m) (items (block n) b b)) header-lawful body-law
+    figures-lawful = pair-lawful header (pair (items message meshRoom m) (items (block n) b b)) header-lawful body-law
 
-    pub mesh-place : Place (rackLayout n b m) (items message 64 m) headerSize (λ v. v .1 .0) (λ x v. (v .0, (x, v .1 .1)))
+    pub mesh-place : Place (rackLayout n b m) (items message meshRoom m) headerSize (λ v. v .1 .0) (λ x v. (v .0, (x, v .1 .1)))
     unfolding rackLayout
     mesh-place =
-        subst (λ (p : ℕ). Place (rackLayout n b m) (items message 64 m) (p + 0) (λ v. v .1 .0) (λ x v. (v .0, (x, v .1 .1)))) header-size
-        (within (second header (pair (items message 64 m) (items (block n) b b)) header-lawful body-law) (first _ _ mesh-law blocks-law))
+        subst (λ (p : ℕ). Place (rackLayout n b m) (items message meshRoom m) (p + 0) (λ v. v .1 .0) (λ x v. (v .0, (x, v .1 .1)))) header-size
+        (within (second header (pair (items message meshRoom m) (items (block n) b b)) header-lawful body-law) (first _ _ mesh-law blocks-law))
 
-    blocks-place : Place (rackLayout n b m) (items (block n) b b) (header .size + 64 * message .size) (λ v. v .1 .1) (λ x v. (v .0, (v .1 .0, x)))
+    blocks-place : Place (rackLayout n b m) (items (block n) b b) (header .size + meshRoom * message .size) (λ v. v .1 .1) (λ x v. (v .0, (v .1 .0, x)))
     unfolding rackLayout
-    blocks-place = within (second header (pair (items message 64 m) (items (block n) b b)) header-lawful body-law) (second _ _ mesh-law blocks-law)
+    blocks-place = within (second header (pair (items message meshRoom m) (items (block n) b b)) header-lawful body-law) (second _ _ mesh-law blocks-law)
 
     pub block-place : (i : ℕ) → i < b
         → Place (rackLayout n b m) (block n) (blockOffset i) (λ v. getD (v .1 .1) i noBlock) (λ k v. (v .0, (v .1 .0, set (v .1 .1) i k)))
@@ -188,17 +187,17 @@ module _ (n : ℕ) (h : n ≤ 15) where
 
   -- as many tokens as words
   as-many : (s : List ℕ) → length (raw .read s .0) ≡ length (raw .read s .1 .1)
-  as-many s = lanes-length n (take (tokenLanes n .size) (take 80 s)) ∙ sym (length-readItems words (suc n) (slice 40 (16 * words .size) (slice 80 (40 + 16 * words .size) s)))
+  as-many s = lanes-length n (take (tokenLanes n .size) (take claimsOffset s)) ∙ sym (length-readItems words (suc n) (slice claimsRoom (16 * words .size) (slice claimsOffset (claimsRoom + 16 * words .size) s)))
 
   -- ---- the claims
 
-  pub claims-place : Place (block n) (claims n) 80 (λ k. k .claims) (λ x k. record { cells = k .cells; claims = x })
+  pub claims-place : Place (block n) (claims n) claimsOffset (λ k. k .claims) (λ x k. record { cells = k .cells; claims = x })
   unfolding block
   claims-place =
       place-iso
       (within (second (blockTokens n) (pair (blockClaims n) (blockWords n)) (block-tokens-lawful n h) rest-lawful)
       (within (first (blockClaims n) (blockWords n) (block-claims-lawful n h) (block-words-lawful n h))
-      (padded-place room (λ k. refl) room-lawful 40 (claims n) (claims-lawful n h) (rw (claims-size n) (omega arith)))))
+      (padded-place room (λ k. refl) room-lawful claimsRoom (claims n) (claims-lawful n h) (rw (claims-size n) (omega arith)))))
       toBlock fromBlock (λ k. k .claims) (λ x k. record { cells = k .cells; claims = x })
       (λ s. refl)
       (λ v s. λ i. (cells-tokens (raw .read s .0) (raw .read s .1 .1) (as-many s) i, (v, cells-words (raw .read s .0) (raw .read s .1 .1) (as-many s) i)))
@@ -221,9 +220,9 @@ module _ (n : ℕ) (h : n ≤ 15) where
         map-set (λ y. y .words) (toBlock (raw .read s) .cells) c x ∙ ap (λ (l : List (List ℕ)). set l c (x .words)) (cells-words (raw .read s .0) (raw .read s .1 .1) (as-many s))
 
     lanes-here : Place (blockTokens n) (tokenLanes n) 0 (λ a. a) (λ v a. v)
-    lanes-here = padded-place room (λ k. refl) room-lawful 80 (tokenLanes n) (lanes-lawful n h) (rw (lanes-size n) (omega arith))
+    lanes-here = padded-place room (λ k. refl) room-lawful claimsOffset (tokenLanes n) (lanes-lawful n h) (rw (lanes-size n) (omega arith))
 
-    words-here : Place (pair (blockClaims n) (blockWords n)) words (40 + c * words .size) (λ v. getD (v .1) c zeros) (λ ws v. (v .0, set (v .1) c ws))
+    words-here : Place (pair (blockClaims n) (blockWords n)) words (claimsRoom + c * words .size) (λ v. getD (v .1) c zeros) (λ ws v. (v .0, set (v .1) c ws))
     words-here =
         within (second (blockClaims n) (blockWords n) (block-claims-lawful n h) (block-words-lawful n h))
         (item words words-lawful zeros 16 (suc n) c (suc-le-suc h) (suc-le-suc hc))
@@ -253,8 +252,8 @@ module _ (n : ℕ) (h : n ≤ 15) where
         (spread-as (spread-within (first (blockTokens n) (pair (blockClaims n) (blockWords n)) (block-tokens-lawful n h) rest-lawful) tokens-here)
         (λ s. (getD s c 0, (eqb (getD s (16 + c) 0) 1, eqb (getD s (32 + c) 0) 1)))
         (λ v s. set (set (set s c (v .0)) (16 + c) (toℕ (v .1 .0))) (32 + c) (toℕ (v .1 .1)))
-        (λ s. λ i. (getD-take 80 s c 0 (omega arith) i, (eqb (getD-take 80 s (16 + c) 0 (omega arith) i) 1, eqb (getD-take 80 s (32 + c) 0 (omega arith) i) 1)))
-        (λ v s l. front-three 80 s (omega arith) c (16 + c) (32 + c) (v .0) (toℕ (v .1 .0)) (toℕ (v .1 .1)) (omega arith) (omega arith) (omega arith)))
+        (λ s. λ i. (getD-take claimsOffset s c 0 (omega arith) i, (eqb (getD-take claimsOffset s (16 + c) 0 (omega arith) i) 1, eqb (getD-take claimsOffset s (32 + c) 0 (omega arith) i) 1)))
+        (λ v s l. front-three claimsOffset s (omega arith) c (16 + c) (32 + c) (v .0) (toℕ (v .1 .0)) (toℕ (v .1 .1)) (omega arith) (omega arith) (omega arith)))
         toBlock fromBlock (λ k. cellTokens (getD (k .cells) c noCell)) (withTokens c)
         (λ s. ap cellTokens (cell-of s))
         (λ v s. λ i. (
@@ -271,7 +270,7 @@ module _ (n : ℕ) (h : n ≤ 15) where
     unfolding block
     words-place =
         subst (λ (p : ℕ). Place (block n) words p (λ k. getD (k .cells) c noCell .words) (withWords c))
-        (ap (λ (k : ℕ). 80 + (40 + c * k)) words-size ∙ omega arith)
+        (ap (λ (k : ℕ). claimsOffset + (claimsRoom + c * k)) words-size ∙ omega arith)
         (place-iso
         (within (second (blockTokens n) (pair (blockClaims n) (blockWords n)) (block-tokens-lawful n h) rest-lawful) words-here)
         toBlock fromBlock (λ k. getD (k .cells) c noCell .words) (withWords c)
@@ -290,18 +289,18 @@ module _ (n : ℕ) (h : n ≤ 15) where
     cell-spread =
         spread-iso
         (spread-as (spread-pair tokens-here (spread-place words-here))
-        (λ s. ((getD s c 0, (eqb (getD s (16 + c) 0) 1, eqb (getD s (32 + c) 0) 1)), words .read (slice (120 + 32 * c) 32 s)))
-        (λ v s. modifyAt (120 + 32 * c) 32 (words .write (v .1)) (set (set (set s c (v .0 .0)) (16 + c) (toℕ (v .0 .1 .0))) (32 + c) (toℕ (v .0 .1 .1))))
+        (λ s. ((getD s c 0, (eqb (getD s (16 + c) 0) 1, eqb (getD s (32 + c) 0) 1)), words .read (slice (wordsOffset + 32 * c) 32 s)))
+        (λ v s. modifyAt (wordsOffset + 32 * c) 32 (words .write (v .1)) (set (set (set s c (v .0 .0)) (16 + c) (toℕ (v .0 .1 .0))) (32 + c) (toℕ (v .0 .1 .1))))
         (λ s. λ i. (
-          (getD-take 80 s c 0 (omega arith) i, (eqb (getD-take 80 s (16 + c) 0 (omega arith) i) 1, eqb (getD-take 80 s (32 + c) 0 (omega arith) i) 1)),
-          (ap (words .read) (part-part 80 m (40 + c * z) z s (words-here .inside)) ∙ (λ j. words .read (slice (80 + (40 + c * words-size j)) (words-size j) s))
+          (getD-take claimsOffset s c 0 (omega arith) i, (eqb (getD-take claimsOffset s (16 + c) 0 (omega arith) i) 1, eqb (getD-take claimsOffset s (32 + c) 0 (omega arith) i) 1)),
+          (ap (words .read) (part-part claimsOffset m (claimsRoom + c * z) z s (words-here .inside)) ∙ (λ j. words .read (slice (claimsOffset + (claimsRoom + c * words-size j)) (words-size j) s))
               ∙ ap (λ (k : ℕ). words .read (slice k 32 s)) far) i,
         ))
         (λ v s l.
-        over-both (three v) (modifyAt (40 + c * z) z (words .write (v .1))) 80 m s (same-three v (take 80 s)) l
-        ∙ over-over (words .write (v .1)) 80 m (40 + c * z) z (three v (take 80 s) ++ drop 80 s) (words-here .inside)
-        ∙ (λ j. modifyAt (80 + (40 + c * words-size j)) (words-size j) (words .write (v .1))
-        (front-three 80 s (omega arith) c (16 + c) (32 + c) (v .0 .0) (toℕ (v .0 .1 .0)) (toℕ (v .0 .1 .1)) (omega arith) (omega arith) (omega arith) j))
+        over-both (three v) (modifyAt (claimsRoom + c * z) z (words .write (v .1))) claimsOffset m s (same-three v (take claimsOffset s)) l
+        ∙ over-over (words .write (v .1)) claimsOffset m (claimsRoom + c * z) z (three v (take claimsOffset s) ++ drop claimsOffset s) (words-here .inside)
+        ∙ (λ j. modifyAt (claimsOffset + (claimsRoom + c * words-size j)) (words-size j) (words .write (v .1))
+        (front-three claimsOffset s (omega arith) c (16 + c) (32 + c) (v .0 .0) (toℕ (v .0 .1 .0)) (toℕ (v .0 .1 .1)) (omega arith) (omega arith) (omega arith) j))
         ∙ ap (λ (k : ℕ). modifyAt k 32 (words .write (v .1)) (three v s)) far))
         toBlock fromBlock (λ k. (cellTokens (getD (k .cells) c noCell), getD (k .cells) c noCell .words)) (λ v. withCellOf c (toCell v))
         (λ s. λ i. (cellTokens (cell-of s i), cell-of s i .words))
@@ -311,9 +310,9 @@ module _ (n : ℕ) (h : n ≤ 15) where
         z = words .size
 
         m : ℕ
-        m = 40 + 16 * z
+        m = claimsRoom + 16 * z
 
-        far : 80 + (40 + c * 32) ≡ 120 + 32 * c
+        far : claimsOffset + (claimsRoom + c * 32) ≡ wordsOffset + 32 * c
         far = omega arith
 
         three : Tokens × List ℕ → List ℕ → List ℕ
@@ -327,43 +326,43 @@ module _ (n : ℕ) (h : n ≤ 15) where
 -- bytes that are as the layout has them, of sizes that the layout has room for
 pub record Formed (s : List ℕ) : Type 0 where
   pub bytes : Bytes s
-  pub boards : getD s 0 0 ≤ 15
-  pub messages : getD s 3 0 ≤ 64
-  pub room : recordLength (getD s 1 0) ≤ length s
+  pub boards : boardsIn s ≤ 15
+  pub messages : messagesIn s ≤ 64
+  pub room : recordLength (blocksIn s) ≤ length s
   pub wellFormed : layoutOf s .wellFormed s ≡ true
 
 pub well-formed : (s : List ℕ) → Formed s → wellFormedRecord s ≡ true
 unfolding wellFormedRecord
-well-formed s f = and-of (leb (recordLength (getD s 1 0)) (length s)) (layoutOf s .wellFormed s) (le-leb (recordLength (getD s 1 0)) (length s) (f .room)) (f .wellFormed)
+well-formed s f = and-of (leb (recordLength (blocksIn s)) (length s)) (layoutOf s .wellFormed s) (le-leb (recordLength (blocksIn s)) (length s) (f .room)) (f .wellFormed)
 
-pub formed-of : (s : List ℕ) → Bytes s → getD s 0 0 ≤ 15 → getD s 3 0 ≤ 64 → wellFormedRecord s ≡ true → Formed s
+pub formed-of : (s : List ℕ) → Bytes s → boardsIn s ≤ 15 → messagesIn s ≤ 64 → wellFormedRecord s ≡ true → Formed s
 unfolding wellFormedRecord
 formed-of s h n m w =
     record {
       bytes = h;
       boards = n;
       messages = m;
-      room = leb-true (recordLength (getD s 1 0)) (length s) (and-l (leb (recordLength (getD s 1 0)) (length s)) (layoutOf s .wellFormed s) w);
-      wellFormed = and-r (leb (recordLength (getD s 1 0)) (length s)) (layoutOf s .wellFormed s) w;
+      room = leb-true (recordLength (blocksIn s)) (length s) (and-l (leb (recordLength (blocksIn s)) (length s)) (layoutOf s .wellFormed s) w);
+      wellFormed = and-r (leb (recordLength (blocksIn s)) (length s)) (layoutOf s .wellFormed s) w;
     }
 
 -- the rack that a record holds has the record's sizes, well-formed or not
 module _ (s : List ℕ) where
-  pub boards-is : get s .boards ≡ getD s 0 0
+  pub boards-is : get s .boards ≡ boardsIn s
   unfolding get rackLayout
   boards-is = ap (λ (v : ℕ × (ℕ × (ℕ × ℕ))). v .0) (header-read s)
 
-  pub tokens-is : get s .tokens ≡ getD s 2 0
+  pub tokens-is : get s .tokens ≡ tokensIn s
   unfolding get rackLayout
   tokens-is = ap (λ (v : ℕ × (ℕ × (ℕ × ℕ))). v .1 .1 .0) (header-read s)
 
-  pub blocks-is : length (get s .blocks) ≡ getD s 1 0
+  pub blocks-is : length (get s .blocks) ≡ blocksIn s
   unfolding get rackLayout
-  blocks-is = length-readItems (block (getD s 0 0)) (getD s 1 0) _
+  blocks-is = length-readItems (block (boardsIn s)) (blocksIn s) _
 
-  pub mesh-is : length (get s .mesh) ≡ getD s 3 0
+  pub mesh-is : length (get s .mesh) ≡ messagesIn s
   unfolding get rackLayout
-  mesh-is = length-readItems message (getD s 3 0) _
+  mesh-is = length-readItems message (messagesIn s) _
 
   read-is : fromRack (get s) ≡ layoutOf s .read s
   unfolding get rackLayout
@@ -379,16 +378,16 @@ module _ (s : List ℕ) where
   )
 
   -- a rack of the record's sizes is written by the record's layout
-  put-is : (r : Rack) → r .boards ≡ getD s 0 0 → length (r .blocks) ≡ getD s 1 0 → length (r .mesh) ≡ getD s 3 0 → put r s ≡ layoutOf s .write (fromRack r) s
+  put-is : (r : Rack) → r .boards ≡ boardsIn s → length (r .blocks) ≡ blocksIn s → length (r .mesh) ≡ messagesIn s → put r s ≡ layoutOf s .write (fromRack r) s
   unfolding put
   put-is r a b c = λ i. rackLayout (a i) (b i) (c i) .write (fromRack r) s
 
   module _ (ok : Formed s) where
-    pub law : Lawful (layoutOf s) (FiguresFit (getD s 0 0) (getD s 1 0) (getD s 3 0))
-    law = figures-lawful (getD s 0 0) (getD s 1 0) (getD s 3 0) (ok .boards) (ok .messages)
+    pub law : Lawful (layoutOf s) (FiguresFit (boardsIn s) (blocksIn s) (messagesIn s))
+    law = figures-lawful (boardsIn s) (blocksIn s) (messagesIn s) (ok .boards) (ok .messages)
 
     pub stands : Stands (layoutOf s) s
-    stands = record { bytes = ok .bytes; wellFormed = ok .wellFormed; room = rw (figures-size (getD s 0 0) (getD s 1 0) (getD s 3 0)) (ok .room) }
+    stands = record { bytes = ok .bytes; wellFormed = ok .wellFormed; room = rw (figures-size (boardsIn s) (blocksIn s) (messagesIn s)) (ok .room) }
 
     -- to write the rack that is there changes nothing
     pub put-get : put (get s) s ≡ s
@@ -401,9 +400,9 @@ module _ (s : List ℕ) where
         ∙ ap (λ (v : RackFields). (v .0, (v .1 .0, set (v .1 .1) b (change x (getD (v .1 .1) b noBlock))))) read-is
 
     -- a figure of a block: where it is read, and what it is to change it
-    module _ {A : Type 0} {M : Layout A} {p : ℕ} {look : Block → A} {change : A → Block → Block} (P : Place (block (getD s 0 0)) M p look change) (b : ℕ) (hb : b < getD s 1 0) where
+    module _ {A : Type 0} {M : Layout A} {p : ℕ} {look : Block → A} {change : A → Block → Block} (P : Place (block (boardsIn s)) M p look change) (b : ℕ) (hb : b < blocksIn s) where
       figure : Place (layoutOf s) M (blockOffset b + p) (λ v. look (getD (v .1 .1) b noBlock)) (λ x v. (v .0, (v .1 .0, set (v .1 .1) b (change x (getD (v .1 .1) b noBlock)))))
-      figure = within (block-place (getD s 0 0) (getD s 1 0) (getD s 3 0) (ok .boards) (ok .messages) b hb) P
+      figure = within (block-place (boardsIn s) (blocksIn s) (messagesIn s) (ok .boards) (ok .messages) b hb) P
 
       pub read-figure : look (blockAt (get s) b) ≡ M .read (slice (blockOffset b + p) (M .size) s)
       unfolding get
@@ -419,21 +418,21 @@ module _ (s : List ℕ) where
           ∙ figure .changes x s stands
 
     -- the same of a figure that stands in several places
-    module _ {A : Type 0} {look : Block → A} {change : A → Block → Block} {reads : List ℕ → A} {writes : A → List ℕ → List ℕ} (S : Spread (block (getD s 0 0)) look change reads writes) (b : ℕ) (hb : b < getD s 1 0) where
+    module _ {A : Type 0} {look : Block → A} {change : A → Block → Block} {reads : List ℕ → A} {writes : A → List ℕ → List ℕ} (S : Spread (block (boardsIn s)) look change reads writes) (b : ℕ) (hb : b < blocksIn s) where
       spread : Spread (layoutOf s) (λ v. look (getD (v .1 .1) b noBlock)) (λ x v. (v .0, (v .1 .0, set (v .1 .1) b (change x (getD (v .1 .1) b noBlock)))))
-          (λ t. reads (slice (blockOffset b) (block (getD s 0 0) .size) t)) (λ x t. modifyAt (blockOffset b) (block (getD s 0 0) .size) (writes x) t)
-      spread = spread-within (block-place (getD s 0 0) (getD s 1 0) (getD s 3 0) (ok .boards) (ok .messages) b hb) S
+          (λ t. reads (slice (blockOffset b) (block (boardsIn s) .size) t)) (λ x t. modifyAt (blockOffset b) (block (boardsIn s) .size) (writes x) t)
+      spread = spread-within (block-place (boardsIn s) (blocksIn s) (messagesIn s) (ok .boards) (ok .messages) b hb) S
 
       pub read-spread : look (blockAt (get s) b) ≡ reads (slice (blockOffset b) blockSize s)
       unfolding get
-      read-spread = spread .looks s ∙ ap (λ (k : ℕ). reads (slice (blockOffset b) k s)) (block-size (getD s 0 0))
+      read-spread = spread .looks s ∙ ap (λ (k : ℕ). reads (slice (blockOffset b) k s)) (block-size (boardsIn s))
 
       pub write-spread : (x : A) → put (changed (get s) b (change x (blockAt (get s) b)) (get s .mesh)) s ≡ modifyAt (blockOffset b) blockSize (writes x) s
       write-spread x =
           put-is (changed (get s) b (change x (blockAt (get s) b)) (get s .mesh)) boards-is (length-set (get s .blocks) b (change x (blockAt (get s) b)) ∙ blocks-is) mesh-is
           ∙ ap (λ (v : RackFields). layoutOf s .write v s) (changed-is change b x)
           ∙ spread .changes x s stands
-          ∙ ap (λ (k : ℕ). modifyAt (blockOffset b) k (writes x) s) (block-size (getD s 0 0))
+          ∙ ap (λ (k : ℕ). modifyAt (blockOffset b) k (writes x) s) (block-size (boardsIn s))
 
 -- ---- a rack that a record can hold
 
@@ -464,7 +463,7 @@ module _ (r : Rack) (fits : Fits r) where
     unfolding put
     put-reads = rack-law .back (fromRack r) s (fitting r fits) room′
 
-    put-sizes : _≡_ {A = ℕ × (ℕ × (ℕ × ℕ))} (getD (put r s) 0 0, (getD (put r s) 1 0, (getD (put r s) 2 0, getD (put r s) 3 0))) (r .boards, (length (r .blocks), (r .tokens, length (r .mesh))))
+    put-sizes : _≡_ {A = ℕ × (ℕ × (ℕ × ℕ))} (boardsIn (put r s), (blocksIn (put r s), (tokensIn (put r s), messagesIn (put r s)))) (r .boards, (length (r .blocks), (r .tokens, length (r .mesh))))
     unfolding rackLayout
     put-sizes = sym (header-read (put r s)) ∙ ap (λ (v : RackFields). v .0) put-reads
 
@@ -475,13 +474,13 @@ module _ (r : Rack) (fits : Fits r) where
         (λ i. toRack (rackLayout (put-sizes i .0) (put-sizes i .1 .0) (put-sizes i .1 .1 .1) .read (put r s)))
         ∙ ap toRack put-reads
 
-    -- and well wellFormed
+    -- and well well-formed
     pub put-formed : Bytes s → Formed (put r s)
     unfolding put
     put-formed b =
-        let n : getD (put r s) 0 0 ≡ r .boards = ap (λ (v : ℕ × (ℕ × (ℕ × ℕ))). v .0) put-sizes in
-        let k : getD (put r s) 1 0 ≡ length (r .blocks) = ap (λ (v : ℕ × (ℕ × (ℕ × ℕ))). v .1 .0) put-sizes in
-        let m : getD (put r s) 3 0 ≡ length (r .mesh) = ap (λ (v : ℕ × (ℕ × (ℕ × ℕ))). v .1 .1 .1) put-sizes in
+        let n : boardsIn (put r s) ≡ r .boards = ap (λ (v : ℕ × (ℕ × (ℕ × ℕ))). v .0) put-sizes in
+        let k : blocksIn (put r s) ≡ length (r .blocks) = ap (λ (v : ℕ × (ℕ × (ℕ × ℕ))). v .1 .0) put-sizes in
+        let m : messagesIn (put r s) ≡ length (r .mesh) = ap (λ (v : ℕ × (ℕ × (ℕ × ℕ))). v .1 .1 .1) put-sizes in
         let l : length (put r s) ≡ length s = put-keeps in
         record {
           bytes = rack-law .bytes (fromRack r) s (fitting r fits) b;
@@ -498,7 +497,7 @@ module _ (r : Rack) (fits : Fits r) where
     unfolding put rackLayout
     put-behind =
         let k : ℕ = length (r .blocks) in
-        let rest : Layout (List Message × List Block) = pair (items message 64 (length (r .mesh))) (items (block (r .boards)) k k) in
+        let rest : Layout (List Message × List Block) = pair (items message meshRoom (length (r .mesh))) (items (block (r .boards)) k k) in
         let e : recordLength k ≡ header .size + rest .size = sym (figures-size (r .boards) k (length (r .mesh))) in
         ap (λ (j : ℕ). drop j (put r s)) e
         ∙ cut-rest (header .size) (rest .size) (header .write (fromRack r .0) (take (header .size) s)) (rest .write (fromRack r .1) (slice (header .size) (rest .size) s)) s
@@ -511,7 +510,7 @@ module _ (r : Rack) (fits : Fits r) where
     unfolding put rackLayout
     put-put q f n b m =
         let k : ℕ = length (r .blocks) in
-        let M : Layout (List Message) = items message 64 (length (r .mesh)) in
+        let M : Layout (List Message) = items message meshRoom (length (r .mesh)) in
         let K : Layout (List Block) = items (block (r .boards)) k k in
         let u : List ℕ = slice (header .size) (M .size + K .size) s in
         let lu : length u ≡ M .size + K .size = length-part (header .size) (M .size + K .size) s room′ in

@@ -11,12 +11,11 @@ use Rattle.spec_base.specs.Layout.{Layout, byte, flag, big, pair, items, room, 
 use Rattle.spec_base.proofs.Laws.{Lawful, byte-lawful, flag-lawful, big-lawful, pair-lawful, iso-lawful, items-lawful, Items}
 use Rattle.spec_base.proofs.Copies.{Full, full-byte, full-flag, full-big, full-pair, full-iso, full-items}
 use Rattle.spec_base.proofs.Padded.{room-lawful, zeroed-lawful, full-zeroed, padded-lawful, full-padded}
-use Rattle.spec_base.proofs.Lanes.{lane-lawful, zipped-lawful, zip-length, zip-left, zip-right, zip-back, all-zip, all-mapped}
+use Rattle.spec_base.proofs.Lanes.{lane-lawful, zipped-lawful, zip-length, all-zip, all-mapped}
 use Rattle.spec_rack.specs.Claims.{Claims}
-use Rattle.spec_rack.specs.RecordLayout.{barringSets, toClaims, fromClaims, claims}
+use Rattle.spec_rack.specs.RecordLayout.{barringSets, toClaims, fromClaims, claims, Tokens, tokens, words, Endpoints, endpoints, messageHeader, toMessage, fromMessage, message, tokenLanes, toCell, cellTokens, toBlock, fromBlock, block, header, blockSize, claimsOffset, claimsRoom, claimsSize, lanesSize, messageSize, headerSize}
 use Rattle.spec_rack.specs.declared.Message.{Message}
 use Rattle.spec_rack.specs.Rack.{Cell, Block}
-use Rattle.spec_rack.specs.RecordLayout.{Tokens, tokens, words, Endpoints, endpoints, messageHeader, toMessage, fromMessage, message, tokenLanes, toCell, cellTokens, toBlock, fromBlock, block, header}
 
 -- ---- what each part can hold
 
@@ -54,23 +53,23 @@ pub heading-size : messageHeader .size ≡ 8
 unfolding messageHeader
 heading-size = refl
 
-pub message-size : message .size ≡ 40
+pub message-size : message .size ≡ messageSize
 unfolding message messageHeader words
 message-size = refl
 
-pub lanes-size : (n : ℕ) → tokenLanes n .size ≡ 48
+pub lanes-size : (n : ℕ) → tokenLanes n .size ≡ lanesSize
 unfolding tokenLanes
 lanes-size n = refl
 
-pub claims-size : (n : ℕ) → claims n .size ≡ 34
+pub claims-size : (n : ℕ) → claims n .size ≡ claimsSize
 unfolding claims barringSets
 claims-size n = refl
 
-pub block-size : (n : ℕ) → block n .size ≡ 632
+pub block-size : (n : ℕ) → block n .size ≡ blockSize
 unfolding block words
 block-size n = refl
 
-pub header-size : header .size ≡ 32
+pub header-size : header .size ≡ headerSize
 unfolding header
 header-size = refl
 
@@ -98,7 +97,7 @@ message-lawful =
 pub header-lawful : Lawful header HeaderFits
 unfolding header
 header-lawful =
-    padded-lawful room (λ k. refl) room-lawful 32 (pair byte (pair byte (pair byte byte)))
+    padded-lawful room (λ k. refl) room-lawful headerSize (pair byte (pair byte (pair byte byte)))
     (pair-lawful _ _ byte-lawful (pair-lawful _ _ byte-lawful (pair-lawful _ _ byte-lawful byte-lawful))) (omega arith)
 
 -- ---- cells from their tokens and their words
@@ -130,10 +129,10 @@ all-words (x ∷ l) h = (h .0 .1, all-words l (h .1))
 -- ---- the parts of a block on a rack of n boards
 
 abbrev pub blockTokens : ℕ → Layout (List Tokens)
-blockTokens n = padded room 80 (tokenLanes n)
+blockTokens n = padded room claimsOffset (tokenLanes n)
 
 abbrev pub blockClaims : ℕ → Layout Claims
-blockClaims n = padded room 40 (claims n)
+blockClaims n = padded room claimsRoom (claims n)
 
 abbrev pub blockWords : ℕ → Layout (List (List ℕ))
 blockWords n = items words 16 (suc n)
@@ -149,7 +148,7 @@ module _ (n : ℕ) (h : n ≤ 15) where
       zipped-lawful (lane byte (suc n)) (zipped (lane flag (suc n)) (lane flag (suc n))) (suc n) (lane-lawful byte byte-lawful (suc n) (suc-le-suc h)) flags-lawful
 
   pub block-tokens-lawful : Lawful (blockTokens n) (Items TokensFit (suc n))
-  block-tokens-lawful = padded-lawful room (λ k. refl) room-lawful 80 (tokenLanes n) lanes-lawful (rw (lanes-size n) (omega arith))
+  block-tokens-lawful = padded-lawful room (λ k. refl) room-lawful claimsOffset (tokenLanes n) lanes-lawful (rw (lanes-size n) (omega arith))
 
   pub block-words-lawful : Lawful (blockWords n) (Items WordsFit (suc n))
   block-words-lawful = items-lawful words words-lawful 16 (suc n) (suc-le-suc h)
@@ -174,7 +173,7 @@ module _ (n : ℕ) (h : n ≤ 15) where
       back (w ∷ c) o = refl
 
   pub block-claims-lawful : Lawful (blockClaims n) (ClaimsFit n)
-  block-claims-lawful = padded-lawful room (λ k. refl) room-lawful 40 (claims n) claims-lawful (rw (claims-size n) (omega arith))
+  block-claims-lawful = padded-lawful room (λ k. refl) room-lawful claimsRoom (claims n) claims-lawful (rw (claims-size n) (omega arith))
 
   pub block-lawful : Lawful (block n) (BlockFits n)
   unfolding block

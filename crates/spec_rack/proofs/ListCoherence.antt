@@ -5,11 +5,12 @@ use mathlib.Core.List.{List, [], _∷_, _++_, append-assoc}
 use Prim.Native.Nat.{ℕ}
 use lib.ListN.{length, length-replicate}
 use Rattle.spec_wire.specs.declared.Step.{Step}
-use Rattle.spec_rack.specs.Rack.{Rack, fresh}
+use Rattle.spec_rack.specs.Rack.{Rack, freshBlock, fresh}
 use Rattle.spec_rack.specs.Soundness.{sizes}
-use Rattle.spec_rack.specs.Rules.{Outcome, refused, accepted, rules}
-use Rattle.spec_rack.specs.FlatMemory.{Memory, Access, blank, accessed, given, flat, rackAfter, answered, handed, accessOf, run, answers, accesses}
-use Rattle.spec_rack.specs.RackCoherence.{Holds, Coherence}
+use Rattle.spec_rack.specs.Rules.{Outcome, refused, accepted, rules, rackAfter, reply}
+use Rattle.spec_rack.specs.FlatMemory.{Memory, Access, blank, accessed, given, flat, accessOf}
+use Rattle.spec_rack.specs.Lists.{runAll, answersOf, accessesOf, ruledAfter, ruledReply, answered, handed, run, rackAnswers, rackAccesses}
+use Rattle.spec_rack.specs.Coherence.{Holds, Counts, RackCoherence}
 use Rattle.spec_rack.proofs.SoundnessFacts.{Sound}
 use Rattle.spec_rack.proofs.BlockInvariant.{Coherent}
 use Rattle.spec_rack.proofs.StepPreservation.{Keeps, Kept, accessedAll, step-keeps}
@@ -31,14 +32,14 @@ pub record Ran (r r′ : Rack) (got want : List ℕ) : Type 0 where
   pub same : got ≡ want
 
 pub run-keeps : (ss : List Step) (r : Rack) (mem : Memory) → Sound r → Coherent r mem
-    → Ran r (run r ss) (answers r ss) (flat mem (accesses r ss))
-unfolding run answers accesses flat
+    → Ran r (run r ss) (rackAnswers r ss) (flat mem (rackAccesses r ss))
+unfolding runAll answersOf accessesOf flat
 run-keeps [] r mem s coh = record { sound = s; boards = refl; tokens = refl; count = refl; same = refl }
 run-keeps (t ∷ ss) r mem s coh = go (λ q m sq cq. run-keeps ss q m sq cq) (rules r t) (step-keeps r s t)
   where
-    go : ((q : Rack) (m : Memory) → Sound q → Coherent q m → Ran q (run q ss) (answers q ss) (flat m (accesses q ss)))
+    go : ((q : Rack) (m : Memory) → Sound q → Coherent q m → Ran q (run q ss) (rackAnswers q ss) (flat m (rackAccesses q ss)))
         → (o : Outcome) → Keeps (Kept r t) o
-        → Ran r (run (rackAfter r o) ss) (answered o ++ answers (rackAfter r o) ss) (flat mem (handed o t ++ accesses (rackAfter r o) ss))
+        → Ran r (run (rackAfter r o) ss) (answered (reply o) ++ rackAnswers (rackAfter r o) ss) (flat mem (handed (reply o) (accessOf t) ++ rackAccesses (rackAfter r o) ss))
     go rest (refused n) k = rest r mem s coh
     go rest (accepted a r′) k =
         let i = rest r′ (accessedAll mem (accessOf t)) (k .sound) (k .coherent mem coh) in
@@ -47,17 +48,21 @@ run-keeps (t ∷ ss) r mem s coh = go (λ q m sq cq. run-keeps ss q m sq cq) (ru
           boards = i .boards ∙ k .boards;
           tokens = i .tokens ∙ k .tokens;
           count = i .count ∙ k .count;
-          same = ap₂ _++_ (k .word mem coh) (i .same) ∙ sym (flat-append mem (accessOf t) (accesses r′ ss));
+          same = ap₂ _++_ (k .word mem coh) (i .same) ∙ sym (flat-append mem (accessOf t) (rackAccesses r′ ss));
         }
 
-pub coherence : Coherence
-coherence n b t r ss e =
+pub counts : (n b t : ℕ) (ss : List Step) → sizes n b t ≡ true → Counts n b t (run (fresh n b t) ss)
+counts n b t ss fits =
+    let v = run-keeps ss (fresh n b t) (blank b) (fresh-sound n b t fits) (fresh-coherent n b t) in
+    record {
+      boards = v .boards;
+      blocks = v .count ∙ length-replicate b (freshBlock n t);
+      tokens = v .tokens;
+      totals = λ k l. let q = v .sound .blocks k (rw (v .count, length-replicate) l) in (q .tokens ∙ v .tokens, q .owners);
+    }
+
+pub rack-coherence : RackCoherence
+rack-coherence n b t r ss e =
     let o = opened n b t r e in
-    subst (λ (q : Rack). Holds b t q ss) (o .1) (from (o .0))
-  where
-    from : sizes n b t ≡ true → Holds b t (fresh n b t) ss
-    from fits =
-        let v = run-keeps ss (fresh n b t) (blank b) (fresh-sound n b t fits) (fresh-coherent n b t) in (
-          v .same,
-          λ k l. let q = v .sound .blocks k (rw (v .count, length-replicate) l) in (q .tokens ∙ v .tokens, q .owners),
-        )
+    subst (λ (q : Rack). Holds ruledAfter ruledReply accessOf (λ rack. rack) n b t q ss) (o .1)
+    (run-keeps ss (fresh n b t) (blank b) (fresh-sound n b t (o .0)) (fresh-coherent n b t) .same, counts n b t ss (o .0))

@@ -17,11 +17,10 @@ use Rattle.spec_base.specs.Number.{Bytes}
 use Rattle.spec_rack.specs.declared.Answer.the-variants.{Done}
 use Rattle.spec_rack.specs.declared.Reply.the-variants.{Accepted, Refused}
 use Rattle.spec_rack.specs.Rack.{freshBlock, fresh}
-use Rattle.spec_rack.specs.Soundness.{sizes}
+use Rattle.spec_rack.specs.Soundness.{sizes, soundBytes, wellFormedRecord}
 use Rattle.spec_rack.proofs.FreshRack.{fresh-sound, opened-sound, fresh-fits as words-fit}
 use Rattle.spec_rack.proofs.Representable.{holdable}
 use Rattle.spec_rack.specs.RecordLayout.{recordLength, get, put}
-use Rattle.spec_rack.specs.Soundness.{soundBytes, wellFormedRecord}
 use Rattle.spec_rack.proofs.GetPut.{Fits, get-put, put-keeps, put-formed, put-behind, well-formed}
 use Rattle.spec_rack.specs.Opening.{openCheck, openReply, openAfter, bufferOpened}
 use Rattle.spec_rack.specs.Rules.{replyOf}

@@ -10,15 +10,14 @@ use Rattle.spec_base.proofs.Tests.{and-l, and-r, and-of}
 use Rattle.spec_base.proofs.Folds.{all-at, all-map}
 use Rattle.spec_base.specs.Number.{Bytes}
 use Rattle.spec_rack.specs.Rack.{Rack, meshLimit, noBlock, blockAt}
-use Rattle.spec_rack.specs.Soundness.{sound}
+use Rattle.spec_rack.specs.Soundness.{sound, wellFormedRecord, soundBytes}
 use Rattle.spec_rack.proofs.SoundnessFacts.{Sound, sound-facts, sound-test}
 use Rattle.spec_rack.proofs.BlockInvariant.{Fits}
-use Rattle.spec_rack.specs.RecordLayout.{recordLength, get, put}
-use Rattle.spec_rack.specs.Soundness.{wellFormedRecord, soundBytes}
+use Rattle.spec_rack.specs.RecordLayout.{recordLength, get, put, blocksIn, boardsIn}
 use Rattle.spec_rack.specs.Effects.{Behind}
 use Rattle.spec_rack.proofs.LayoutParts.{CellFits, MessageFits, BlockFits}
 use Rattle.spec_rack.proofs.GetPut.{Formed, well-formed, formed-of, law, boards-is, blocks-is, mesh-is, get-put, put-keeps, put-behind, put-formed}
-use Rattle.spec_rack.proofs.Representable.{holdable, boards-low, blocks-low}
+use Rattle.spec_rack.proofs.Representable.{holdable, boards-low}
 
 pub record Live (s : List ℕ) : Type 0 where
   pub wellFormed : Formed s
@@ -33,7 +32,7 @@ words-fit s ok =
     record {
       cells = λ b l.
           all-map CellFits (λ x. All (λ (w : ℕ). w < 2 ^ 32) (x .words)) (blockAt (get s) b .cells)
-          (all-at (BlockFits (getD s 0 0)) (get s .blocks) (held .1 .1) b noBlock l .0 .1) (λ x h. h .1 .1);
+          (all-at (BlockFits (boardsIn s)) (get s .blocks) (held .1 .1) b noBlock l .0 .1) (λ x h. h .1 .1);
       mesh = all-map MessageFits (λ x. All (λ (w : ℕ). w < 2 ^ 32) (x .words)) (get s .mesh) (held .0 .1) (λ x h. h .1 .1);
     }
 
@@ -62,7 +61,7 @@ module _ (s : List ℕ) (live : Live s) where
     pub put-is : get (put r s) ≡ r
     put-is = get-put r (holdable r sr fr) s room
 
-    pub put-rest : Behind (getD s 1 0) s (put r s)
+    pub put-rest : Behind (blocksIn s) s (put r s)
     put-rest =
         record {
           size = put-keeps r (holdable r sr fr) s room;

@@ -8,14 +8,14 @@ use native.Mathlib.Omega.{arith}
 use borrow.Author.Tests.{ltb-false, leb-false, leb-true, eqb-false, not-false}
 use lib.ListN.{length, getD, length-set}
 use lib.Dec.{eqb, leb, ltb}
-use Rattle.spec_base.proofs.Tests.{and-l, and-r, or-l, or-r}
+use Rattle.spec_base.proofs.Tests.{and-l, and-r, or-l, or-r, and-not}
 use Rattle.spec_wire.specs.declared.Refusal.{Refusal}
 use Rattle.spec_wire.specs.declared.Check.{Check}
 use Rattle.spec_wire.specs.declared.Check.the-variants.{Pass, Refuse}
 use Rattle.spec_wire.specs.Refusals.{when_refuse_else_}
 use Rattle.spec_wire.specs.declared.Step.{Step}
 use Rattle.spec_wire.specs.declared.Step.the-variants.{Load, Store, Send, Deliver, Raise, Lower, Forward}
-use Rattle.spec_rack.specs.Boards.{places}
+use Rattle.spec_rack.specs.Boards.{boardRoom}
 use Rattle.spec_rack.specs.Claims.{raiseCheck, raised, lowerCheck, lowered}
 use Rattle.spec_rack.proofs.Claims.{SoundClaims, raised-sound, lowered-sound, active-known}
 use Rattle.spec_rack.specs.declared.Message.{Message}
@@ -23,8 +23,8 @@ use Rattle.spec_rack.specs.declared.Answer.{Answer}
 use Rattle.spec_rack.specs.Rack.{Block, Rack, meshLimit, claimsAt, cellAt}
 use Rattle.spec_rack.specs.Soundness.{sound}
 use Rattle.spec_rack.specs.Rules.{Outcome, refused, accepted, settled, check, after, answer, offRack, meshFull, pastMesh, changed, rules, stored, sent, delivered, forwarded}
-use Rattle.spec_rack.specs.FlatMemory.{Memory, Access, accessed, flat, accessOf, wordsOf}
-use Rattle.spec_base.proofs.Tests.{and-not}
+use Rattle.spec_rack.specs.FlatMemory.{Memory, Access, accessed, flat, accessOf}
+use Rattle.spec_rack.specs.Lists.{wordsOf}
 use Rattle.spec_rack.proofs.SoundnessFacts.{Sound, sound-facts, sound-test}
 use Rattle.spec_rack.proofs.BlockInvariant.{Coherent, Fits, cell-has}
 use Rattle.spec_rack.proofs.TokenConservation.{Moved, sent-keeps, delivered-keeps, forwarded-keeps, claims-keep}
@@ -88,7 +88,7 @@ some : (n : ℕ) → eqb n 0 ≡ false → 0 < n
 some n h = let ne : n ≡ 0 → ⊥ = eqb-false n 0 h in omega arith
 
 module _ (r : Rack) (s : Sound r) where
-  few-boards : r .boards < places
+  few-boards : r .boards < boardRoom
   few-boards = omega (arith, leb-true (r .boards) 15 (search (and-l, and-r, s .size)))
 
   room : meshFull r ≡ false → length (r .mesh) < meshLimit

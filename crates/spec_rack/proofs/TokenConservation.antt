@@ -8,7 +8,7 @@ use borrow.Author.Tests.{ltb-true, lt-ltb}
 use lib.ListN.{length, getD, length-set}
 use lib.Dec.{eqb, ltb}
 use Rattle.spec_base.specs.Folds.{toℕ, removeAt}
-use Rattle.spec_base.proofs.Tests.{differs, and-l, and-r, and-of}
+use Rattle.spec_base.proofs.Tests.{differs, and-l, and-r, and-of, cond-of, or-keeps}
 use Rattle.spec_base.proofs.Folds.{all-at, all-snoc, all-removed, all-replicate, sum-snoc, sum-removed, sum-at, length-snoc, length-removed}
 use Rattle.spec_rack.specs.Claims.{Claims, active}
 use Rattle.spec_rack.proofs.Claims.{SoundClaims}
@@ -16,7 +16,6 @@ use Rattle.spec_rack.specs.declared.Message.{Message}
 use Rattle.spec_rack.specs.Rack.{Cell, Block, Rack, meshLimit, zeros, noCell, noMessage, blockAt, claimsAt, cellAt, messageAt, owners, held, carried}
 use Rattle.spec_rack.specs.Rules.{withCell, withClaims, withoutTokens, withTokens, message, sent, delivered, forwarded}
 use Rattle.spec_rack.specs.FlatMemory.{Memory}
-use Rattle.spec_base.proofs.Tests.{cond-of, or-keeps}
 use Rattle.spec_rack.proofs.SoundnessFacts.{SoundCell, SoundMessage, SoundShape, Sound}
 use Rattle.spec_rack.proofs.BlockInvariant.{cellOwners, messageOwners, counted, not-counted, in-flight-at, Everywhere, CellHas, MessageHas, Coherent, Fit, CellFits, MessageFits, Fits, message-sound, cell-in, cell-sound, cell-is, CellBalanced, changed-sound, changed-everywhere, with-cell-sound, with-cell-everywhere}
 

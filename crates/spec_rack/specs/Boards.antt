@@ -5,8 +5,8 @@ use lib.Dec.{eqb, leb, ltb}
 use Rattle.spec_base.specs.Folds.{allBelow, countBelow, implies}
 
 -- the boards that a set can hold: those below 16
-abbrev pub places : ℕ
-places = 16
+abbrev pub boardRoom : ℕ
+boardRoom = 16
 
 -- bit i of s: 0 or 1
 unfoldable pub bit : ℕ → ℕ → ℕ
@@ -26,11 +26,11 @@ remove s i = cond (member s i) (s - 2 ^ i) s
 
 -- every member of a is one of b
 unfoldable pub subset : ℕ → ℕ → Bool
-subset a b = allBelow places (λ i. implies (member a i) (member b i))
+subset a b = allBelow boardRoom (λ i. implies (member a i) (member b i))
 
 -- every member of s is a board: a number from 1 to n
 unfoldable pub boardsOnly : ℕ → ℕ → Bool
-boardsOnly n s = ltb s (2 ^ places) && allBelow places (λ i. implies (member s i) (leb 1 i && leb i n))
+boardsOnly n s = ltb s (2 ^ boardRoom) && allBelow boardRoom (λ i. implies (member s i) (leb 1 i && leb i n))
 
 -- the first member among the k numbers from i on; i + k where there is none
 unfoldable pub firstFrom : ℕ → ℕ → ℕ → ℕ
@@ -39,8 +39,8 @@ firstFrom (suc k) s i = cond (member s i) i (firstFrom k s (suc i))
 
 -- the lowest member, by a search from 0 upwards; 16 for the empty set
 unfoldable pub lowest : ℕ → ℕ
-lowest s = firstFrom places s 0
+lowest s = firstFrom boardRoom s 0
 
 -- how many members
 unfoldable pub size : ℕ → ℕ
-size s = countBelow places (member s)
+size s = countBelow boardRoom (member s)

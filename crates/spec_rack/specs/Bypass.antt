@@ -7,7 +7,7 @@ use lib.Dec.{eqb, leb}
 use Rattle.spec_base.specs.Folds.{toℕ, all}
 use Rattle.spec_wire.specs.declared.Check.{Check}
 use Rattle.spec_wire.specs.declared.Check.the-variants.{Pass, Refuse}
-use Rattle.spec_rack.specs.Boards.{places}
+use Rattle.spec_rack.specs.Boards.{boardRoom}
 use Rattle.spec_rack.specs.Claims.{Claims, raiseCheck, raised, lowerCheck, lowered, soundClaims}
 
 -- a board's raise or lower, accepted or not
@@ -64,7 +64,7 @@ others p i = not (eqb i p)
 -- The claims c, in which board p's raise is accepted, were reached from sound claims by moves of the boards 1 to n. More moves follow it,
 -- among which no lower of p is accepted.
 pub record Waits (n p : ℕ) (start : Claims) (before between : List Move) (c : Claims) : Type 0 where
-  pub fits : n < places
+  pub fits : n < boardRoom
   pub sound : soundClaims n start ≡ true
   pub moves-before : boardMoves n before ≡ true
   pub reached : c ≡ claimsAfter start before

@@ -15,12 +15,11 @@ use Rattle.spec_rack.specs.declared.Answer.the-variants.{Done}
 use Rattle.spec_rack.specs.declared.Reply.the-variants.{Accepted, Refused}
 use Rattle.spec_rack.specs.Rack.{fresh}
 use Rattle.spec_rack.specs.Rules.{accepted, rules}
-use Rattle.spec_rack.specs.FlatMemory.{run}
-use Rattle.spec_rack.specs.RecordLayout.{recordLength, get}
+use Rattle.spec_rack.specs.Lists.{run, stepsOf, after, framesFrom, RunResult}
+use Rattle.spec_rack.specs.RecordLayout.{recordLength, get, blocksIn, boardsIn, tokensIn}
 use Rattle.spec_rack.specs.Soundness.{soundBytes}
 use Rattle.spec_rack.specs.Opening.{openReply, openAfter}
 use Rattle.spec_rack.specs.Entries.{stepReply, stepAfter}
-use Rattle.spec_rack.specs.Lists.{stepsOf, after, framesFrom, RunResult}
 
 -- from s to s′: nothing behind the record of b blocks changes
 pub record Behind (b : ℕ) (s s′ : List ℕ) : Type 0 where
@@ -29,10 +28,10 @@ pub record Behind (b : ℕ) (s s′ : List ℕ) : Type 0 where
 
 -- and the record keeps N, B and T and stays sound, or unsound
 pub record Steady (s s′ : List ℕ) : Type 0 where
-  pub rest : Behind (getD s 1 0) s s′
-  pub boards : getD s′ 0 0 ≡ getD s 0 0
-  pub blocks : getD s′ 1 0 ≡ getD s 1 0
-  pub tokens : getD s′ 2 0 ≡ getD s 2 0
+  pub rest : Behind (blocksIn s) s s′
+  pub boards : boardsIn s′ ≡ boardsIn s
+  pub blocks : blocksIn s′ ≡ blocksIn s
+  pub tokens : tokensIn s′ ≡ tokensIn s
   pub sound : soundBytes s′ ≡ soundBytes s
 
 -- ---- a step

@@ -3,8 +3,7 @@ use mathlib.Core.List.{List}
 use Prim.Native.Nat.{ℕ}
 use Rattle.spec_wire.specs.declared.Step.{Step}
 use Rattle.spec_rack.specs.declared.Reply.{Reply}
-use Rattle.spec_rack.specs.Rules.{Outcome, refused, accepted, rules}
-use Rattle.spec_rack.specs.FlatMemory.{reply}
+use Rattle.spec_rack.specs.Rules.{Outcome, refused, accepted, rules, reply}
 use Rattle.spec_rack.specs.RecordLayout.{get, put}
 use mathlib.Core.Bool.{cond}
 use Rattle.spec_wire.specs.declared.Refusal.the-variants.{Unsound}

@@ -1,19 +1,83 @@
--- Document 01, "The flat memory": a list of byte strings given as steps, one after the other; and a list of records in one slice, as `hyl_run` takes it.
+-- Document 01, "The flat memory": a list given step by step, to a rack and to the record in a lent buffer; the replies, and what the flat memory is handed.
 use mathlib.Core.List.{List, [], _∷_, _++_, map}
 use Prim.Native.Nat.{ℕ, _+_}
 use Rattle.spec_wire.specs.declared.Step.{Step}
 use Rattle.spec_wire.specs.declared.Reading.{Reading}
 use Rattle.spec_wire.specs.declared.Reading.the-variants.{Step as Read, Refused as NoStep}
 use Rattle.spec_wire.specs.Reader.{readRecord}
+use Rattle.spec_rack.specs.declared.Answer.{Answer}
+use Rattle.spec_rack.specs.declared.Answer.the-variants.{Done, Word}
 use Rattle.spec_rack.specs.declared.Reply.{Reply}
 use Rattle.spec_rack.specs.declared.Reply.the-variants.{Accepted, Refused}
-use Rattle.spec_rack.specs.FlatMemory.{Access, wordsOf, accessOf}
+use Rattle.spec_rack.specs.FlatMemory.{Access, accessOf}
+use Rattle.spec_rack.specs.Rack.{Rack}
+use Rattle.spec_rack.specs.Rules.{rules, reply, rackAfter}
 use Rattle.spec_rack.specs.Entries.{stepReply, stepAfter}
 use mathlib.Core.Path.{_≡_}
 use lib.ListN.{length, drop}
 use Rattle.spec_base.specs.Folds.{sum}
 use Rattle.spec_wire.specs.Frames.{frames}
 use Rattle.spec_rack.specs.Results.{packedReply}
+
+-- ---- any list, given to a state one item after the other. A state is a rack and an item a step; or a state is a lent buffer and an item a byte string.
+
+-- the word of an answered load
+abbrev pub wordsOf : Answer → List ℕ
+wordsOf Done = []
+wordsOf (Word w) = w ∷ []
+
+abbrev pub answered : Reply → List ℕ
+answered (Accepted a) = wordsOf a
+answered (Refused n) = []
+
+-- what the flat memory is handed of an item: its access, where it was accepted
+abbrev pub handed : Reply → List Access → List Access
+handed (Accepted a) l = l
+handed (Refused n) l = []
+
+-- by what one item leaves, what is replied to it, and the access that it is
+module _ {S I : Type 0} (after : S → I → S) where
+  -- the state after the list
+  unfoldable pub runAll : S → List I → S
+  runAll s [] = s
+  runAll s (x ∷ xs) = runAll (after s x) xs
+
+  module _ (reply : S → I → Reply) where
+    unfoldable pub repliesOf : S → List I → List Reply
+    repliesOf s [] = []
+    repliesOf s (x ∷ xs) = reply s x ∷ repliesOf (after s x) xs
+
+    -- the words of the answered loads
+    unfoldable pub answersOf : S → List I → List ℕ
+    answersOf s [] = []
+    answersOf s (x ∷ xs) = answered (reply s x) ++ answersOf (after s x) xs
+
+    -- the accepted loads and stores
+    unfoldable pub accessesOf : (I → List Access) → S → List I → List Access
+    accessesOf access s [] = []
+    accessesOf access s (x ∷ xs) = handed (reply s x) (access x) ++ accessesOf access (after s x) xs
+
+-- ---- to a rack, by the rules
+
+abbrev pub ruledAfter : Rack → Step → Rack
+ruledAfter r t = rackAfter r (rules r t)
+
+abbrev pub ruledReply : Rack → Step → Reply
+ruledReply r t = reply (rules r t)
+
+abbrev pub run : Rack → List Step → Rack
+run r ts = runAll ruledAfter r ts
+
+abbrev pub rackReplies : Rack → List Step → List Reply
+rackReplies r ts = repliesOf ruledAfter ruledReply r ts
+
+abbrev pub rackAnswers : Rack → List Step → List ℕ
+rackAnswers r ts = answersOf ruledAfter ruledReply r ts
+
+abbrev pub rackAccesses : Rack → List Step → List Access
+rackAccesses r ts = accessesOf ruledAfter ruledReply accessOf r ts
+
+-- ---- byte strings
 
 -- the steps among byte strings
 abbrev pub stepIn : Reading → List Step
@@ -24,36 +88,26 @@ abbrev pub stepsOf : List (List ℕ) → List Step
 stepsOf [] = []
 stepsOf (b ∷ bs) = stepIn (readRecord b) ++ stepsOf bs
 
--- the buffer after the list
-unfoldable pub after : List ℕ → List (List ℕ) → List ℕ
-after s [] = s
-after s (b ∷ bs) = after (stepAfter s b) bs
+-- the access of a byte string that is a load or a store
+abbrev pub accessIn : Reading → List Access
+accessIn (Read t) = accessOf t
+accessIn (NoStep n) = []
 
--- the replies
-unfoldable pub replies : List ℕ → List (List ℕ) → List Reply
-replies s [] = []
-replies s (b ∷ bs) = stepReply s b ∷ replies (stepAfter s b) bs
+-- ---- to a lent buffer: the buffer after the list, the replies, the words of the answered loads, the accepted loads and stores
 
--- the word of an answered load
-abbrev pub answered : Reply → List ℕ
-answered (Accepted a) = wordsOf a
-answered (Refused n) = []
+abbrev pub after : List ℕ → List (List ℕ) → List ℕ
+after s bs = runAll stepAfter s bs
 
--- the access of an accepted load or store
-abbrev pub handed : Reply → Reading → List Access
-handed (Accepted a) (Read t) = accessOf t
-handed (Accepted a) (NoStep n) = []
-handed (Refused n) t = []
+abbrev pub replies : List ℕ → List (List ℕ) → List Reply
+replies s bs = repliesOf stepAfter stepReply s bs
 
--- the words of the answered loads
-unfoldable pub answers : List ℕ → List (List ℕ) → List ℕ
-answers s [] = []
-answers s (b ∷ bs) = answered (stepReply s b) ++ answers (stepAfter s b) bs
+abbrev pub answers : List ℕ → List (List ℕ) → List ℕ
+answers s bs = answersOf stepAfter stepReply s bs
 
--- the accepted loads and stores
-unfoldable pub accesses : List ℕ → List (List ℕ) → List Access
-accesses s [] = []
-accesses s (b ∷ bs) = handed (stepReply s b) (readRecord b) ++ accesses (stepAfter s b) bs
+abbrev pub accesses : List ℕ → List (List ℕ) → List Access
+accesses s bs = accessesOf stepAfter stepReply (λ b. accessIn (readRecord b)) s bs
+
+-- ---- a list of records in one slice
 
 -- the records from a place of the list on, as many as there are places for replies
 abbrev pub framesFrom : List ℕ → ℕ → List ℕ → List (List ℕ)

@@ -1,4 +1,4 @@
--- Document 01, "Refusal table" and "Opening": an opening with N, B and T in a lent buffer; 19, then 20.
+-- Document 01, "The rack" and "Refusal table": an opening with N, B and T in a lent buffer; 19, then 20.
 use Prim.Native.Nat.{ℕ}
 use mathlib.Core.List.{List}
 use lib.ListN.{length}
@@ -7,9 +7,7 @@ use Rattle.spec_wire.specs.declared.Refusal.the-variants.{ShortBuffer}
 use Rattle.spec_wire.specs.declared.Check.{Check}
 use Rattle.spec_wire.specs.declared.Check.the-variants.{Pass, Refuse}
 use Rattle.spec_wire.specs.Refusals.{when_refuse_else_}
-use Rattle.spec_rack.specs.declared.Answer.the-variants.{Done}
 use Rattle.spec_rack.specs.declared.Reply.{Reply}
-use Rattle.spec_rack.specs.declared.Reply.the-variants.{Accepted, Refused}
 use Rattle.spec_rack.specs.Rack.{fresh}
 use Rattle.spec_rack.specs.Rules.{openingThen, replyOf}
 use Rattle.spec_rack.specs.RecordLayout.{recordLength, put}

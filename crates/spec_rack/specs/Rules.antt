@@ -86,6 +86,10 @@ forwarded r c b =
 abbrev pub offRack : Rack → ℕ → ℕ → Bool
 offRack r c b = ltb (r .boards) c || leb (length (r .blocks)) b
 
+-- word above 7
+abbrev pub pastWords : ℕ → Bool
+pastWords w = ltb 7 w
+
 -- 64 in flight
 abbrev pub meshFull : Rack → Bool
 meshFull r = leb meshLimit (length (r .mesh))
@@ -96,13 +100,13 @@ pastMesh r i = leb (length (r .mesh)) i
 
 unfoldable pub check : Rack → Step → Check
 check r (Load c b w) =
-    when offRack r c b || ltb 7 w refuse OffRack else
+    when offRack r c b || pastWords w refuse OffRack else
     when eqb c 0 refuse Home else
     when eqb (held (cellAt r b c)) 0 refuse NoToken else
     when not (cellAt r b c .valid) refuse NoData else
     Pass
 check r (Store c b w v) =
-    when offRack r c b || ltb 7 w refuse OffRack else
+    when offRack r c b || pastWords w refuse OffRack else
     when eqb c 0 refuse Home else
     when ltb (held (cellAt r b c)) (r .tokens) refuse Short else
     Pass
@@ -167,6 +171,15 @@ settled (Refuse n) a r = refused n
 
 unfoldable pub rules : Rack → Step → Outcome
 rules r s = settled (check r s) (answer r s) (after r s)
+
+-- the reply, and the rack afterwards
+abbrev pub reply : Outcome → Reply
+reply (refused n) = Refused n
+reply (accepted a r) = Accepted a
+
+abbrev pub rackAfter : Rack → Outcome → Rack
+rackAfter r (refused n) = r
+rackAfter r (accepted a r′) = r′
 
 -- the reply to a step or an opening that gives only "done"
 abbrev pub replyOf : Check → Reply

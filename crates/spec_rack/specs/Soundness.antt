@@ -9,7 +9,7 @@ use Rattle.spec_base.specs.Folds.{all, allBelow, implies}
 use Rattle.spec_rack.specs.Claims.{soundClaims}
 use Rattle.spec_rack.specs.declared.Message.{Message}
 use Rattle.spec_rack.specs.Rack.{Cell, Rack, meshLimit, blockAt, claimsAt, held, carried, tokensOf, ownersOf}
-use Rattle.spec_rack.specs.RecordLayout.{layoutOf, recordLength, get}
+use Rattle.spec_rack.specs.RecordLayout.{layoutOf, recordLength, get, blocksIn}
 
 -- N 1 to 15, B 1 to 32, T from N to 64
 abbrev pub sizes : ℕ → ℕ → ℕ → Bool
@@ -47,14 +47,14 @@ unfoldable pub sound : Rack → Bool
 sound r =
     sizes (r .boards) (length (r .blocks)) (r .tokens)  -- sizes in range
     && leb (length (r .mesh)) meshLimit  -- at most 64 messages
-    && all (soundMessage (r .boards) (length (r .blocks))) (r .mesh)  -- all message
+    && all (soundMessage (r .boards) (length (r .blocks))) (r .mesh)  -- every message
     && allBelow (length (r .blocks)) (soundBlock r)  -- per block
 
 -- ---- bytes: what refusal 2 asks of a buffer
 
 -- the buffer is long enough for a record of its own count of blocks, and the bytes are as the layout has them
 unfoldable pub wellFormedRecord : List ℕ → Bool
-wellFormedRecord s = leb (recordLength (getD s 1 0)) (length s) && layoutOf s .wellFormed s
+wellFormedRecord s = leb (recordLength (blocksIn s)) (length s) && layoutOf s .wellFormed s
 
 unfoldable pub soundBytes : List ℕ → Bool
 soundBytes s = wellFormedRecord s && sound (get s)

@@ -1,4 +1,4 @@
-// The rack: types. There is no code.
+// The rack: types, and the constants of the record's layout. There is no code.
 use spec_wire::Refusal;
 
 // What an accepted step gives.
@@ -7,7 +7,7 @@ pub enum Answer {
     Word(u32),
 }
 
-// What the caller of a step, or of an opening, is told.
+// The reply to a step or an opening.
 pub enum Reply {
     Accepted(Answer),
     Refused(Refusal),
@@ -21,7 +21,7 @@ pub enum Letter {
     I,
 }
 
-// What the caller of the state letter is told.
+// The reply to a question for the state letter.
 pub enum Lettered {
     Letter(Letter),
     Refused(Refusal),
@@ -38,22 +38,70 @@ pub struct Message {
 }
 
 // The record's layout: specs/RecordLayout.antt has the same numbers under the same names, and the contracts tie the two.
+
+// The header.
+pub const BOARD_COUNT_OFFSET: usize = 0;
+
+pub const BLOCK_COUNT_OFFSET: usize = 1;
+
+pub const TOKEN_COUNT_OFFSET: usize = 2;
+
+pub const MESSAGE_COUNT_OFFSET: usize = 3;
+
 pub const HEADER_SIZE: usize = 32;
+
+// A message.
+pub const SENDER_OFFSET: usize = 0;
+
+pub const TARGET_OFFSET: usize = 1;
+
+pub const MESSAGE_BLOCK_OFFSET: usize = 2;
+
+pub const MESSAGE_PLAIN_OFFSET: usize = 3;
+
+pub const MESSAGE_OWNER_OFFSET: usize = 4;
+
+pub const DATA_OFFSET: usize = 5;
+
+// Two bytes that are 0.
+pub const MESSAGE_ZERO_OFFSET: usize = 6;
+
+pub const MESSAGE_LAST_ZERO_OFFSET: usize = 7;
+
+pub const MESSAGE_WORDS_OFFSET: usize = 8;
 
 pub const MESSAGE_SIZE: usize = 40;
 
-pub const BLOCKS_OFFSET: usize = 2592;
+pub const MESH_ROOM: usize = 64;
 
-pub const BLOCK_SIZE: usize = 632;
+// The most messages in flight: document 01 has one limit, which is not the room of the layout.
+pub const MESH_LIMIT: u8 = 64;
 
-pub const OWNER_OFFSET: usize = 16;
+// A block: three lanes, the claims, the words.
+pub const LANE_SIZE: usize = 16;
 
-pub const VALID_OFFSET: usize = 32;
+pub const OWNER_OFFSET: usize = LANE_SIZE;
+
+pub const VALID_OFFSET: usize = 2 * LANE_SIZE;
+
+pub const LANES_SIZE: usize = 3 * LANE_SIZE;
 
 pub const CLAIMS_OFFSET: usize = 80;
+
 // In the claims.
 pub const WAITING_OFFSET: usize = 32;
 
-pub const WORDS_OFFSET: usize = 120;
+pub const CLAIMS_SIZE: usize = WAITING_OFFSET + 2;
+
+pub const CLAIMS_ROOM: usize = 40;
+
+pub const WORDS_OFFSET: usize = CLAIMS_OFFSET + CLAIMS_ROOM;
 
 pub const WORDS_SIZE: usize = 32;
+
+pub const BLOCK_SIZE: usize = WORDS_OFFSET + LANE_SIZE * WORDS_SIZE;
+
+pub const BLOCKS_OFFSET: usize = HEADER_SIZE + MESH_ROOM * MESSAGE_SIZE;
+
+// The longest record: 32 blocks are the most.
+pub const LONGEST_RECORD: usize = BLOCKS_OFFSET + BLOCK_SIZE * 32;

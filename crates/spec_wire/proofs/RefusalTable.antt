@@ -4,15 +4,13 @@ use mathlib.Core.Path.{_≡_, refl, sym, ap, _∙_}
 use mathlib.Core.Bool.{Bool, true, false}
 use Prim.Native.Nat.{ℕ, _≤_}
 use native.Mathlib.Omega.{arith}
-use mathlib.Core.List.{_∷_, []}
-use lib.ListN.{getD}
 use borrow.Author.Tests.{lt-ltb, le-ltb, le-leb, lt-leb, eq-eqb, ne-eqb}
 use Rattle.spec_base.proofs.Tests.{differs, and-of, and-left, and-right, or-left, or-right, or-none, not-of-false, not-of-true}
 use Rattle.spec_wire.specs.declared.Check.{Check}
 use Rattle.spec_wire.specs.declared.Check.the-variants.{Pass, Refuse}
 use Rattle.spec_wire.specs.declared.Refusal.{Refusal}
 use Rattle.spec_wire.specs.declared.Refusal.the-variants.{Torn, Unsound, OffRack, Home, NoToken, NoData, Short, SelfSend, Claimed, Empty, NotHeld, BareOwner, MeshFull, NoMessage, Waiting, Barred, NotWaiting, Unclaimed, Size, ShortBuffer}
-use Rattle.spec_wire.specs.Refusals.{number, when_refuse_else_}
+use Rattle.spec_wire.specs.Refusals.{number, numbered, when_refuse_else_}
 
 -- a line whose test passes ends the run
 pub stops : (t : Bool) (n : Refusal) (k : Check) → t ≡ true → Refuse n ≡ (when t refuse n else k)
@@ -64,11 +62,8 @@ number-known Unclaimed = omega arith
 number-known Size = omega arith
 number-known ShortBuffer = omega arith
 
--- the refusal with a number of the table
-abbrev numbered : ℕ → Refusal
-numbered n = getD (Torn ∷ Torn ∷ Unsound ∷ OffRack ∷ Home ∷ NoToken ∷ NoData ∷ Short ∷ SelfSend ∷ Claimed ∷ Empty ∷ NotHeld ∷ BareOwner ∷ MeshFull ∷ NoMessage ∷ Waiting ∷ Barred ∷ NotWaiting ∷ Unclaimed ∷ Size ∷ ShortBuffer ∷ []) n Torn
-
-number-back : (r : Refusal) → numbered (number r) ≡ r
+-- the number of a refusal tells it
+pub number-back : (r : Refusal) → numbered (number r) ≡ r
 number-back Torn = refl
 number-back Unsound = refl
 number-back OffRack = refl

@@ -16,8 +16,7 @@ use Rattle.spec_wire.specs.declared.Step.{Step}
 use Rattle.spec_wire.specs.declared.Reading.the-variants.{Step as Read, Refused}
 use Rattle.spec_wire.specs.Kinds.{kindOf, fieldArray, kindIn, stepInBounds}
 use Rattle.spec_wire.specs.StepRecord.{recordBytes, stepBytes}
-use Rattle.spec_wire.specs.Reader.{bodyParses, parsedArray, readBody}
-use Rattle.spec_wire.specs.Reader.{framed, readRecord, ReadFits}
+use Rattle.spec_wire.specs.Reader.{bodyParses, parsedArray, readBody, framed, readRecord, ReadFits}
 use Rattle.spec_wire.specs.RoundTrip.{RoundTrips}
 use Rattle.spec_wire.proofs.KindTable.{fields-sound, of-fit}
 use Rattle.spec_wire.proofs.RecordSizes.{body, body-length, record-length}

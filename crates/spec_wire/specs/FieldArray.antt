@@ -19,17 +19,17 @@ use Rattle.spec_wire.specs.Writer.{placed}
 unfoldable pub same : List ℕ → List ℕ → Bool
 same p q = allBelow 12 (λ i. eqb (getD p i 0) (getD q i 0))
 
--- the step that twelve numbers tell, if they fit its fields and are the numbers of the step
+-- the step that an array of twelve encodes: its fields are in bounds, and every unused entry is 0
 unfoldable pub stepOfTwelve : List ℕ → Reading
 stepOfTwelve p =
     cond (inBounds (kindOf (kindIn p) .fields) p && same (fieldArray (kindOf (kindIn p) .step p)) p) (Step (kindOf (kindIn p) .step p))
     (Refused Torn)
 
--- the step that numbers tell by their first twelve
+-- the same of a longer list, by its first twelve numbers
 unfoldable pub stepOfArray : List ℕ → Reading
 stepOfArray ns = cond (leb 12 (length ns)) (stepOfTwelve (take 12 ns)) (Refused Torn)
 
--- Reading, where a step's numbers go to the front of `out`: the result, and `out` afterwards.
+-- Reading, where a step's array goes to the front of `out`: the result, and `out` afterwards.
 unfoldable pub readResult : Reading → List ℕ → ℕ
 readResult (Step s) out = cond (roomFor (fieldArray s) 0 out) (done 0) (refused ShortBuffer)
 readResult (Refused r) out = refused r
@@ -38,7 +38,7 @@ unfoldable pub readAfter : Reading → List ℕ → List ℕ
 readAfter (Step s) out = placed (fieldArray s) 0 out
 readAfter (Refused r) out = out
 
--- Writing the step that numbers tell: the writer's answer as one number.
+-- Writing the step that an array encodes: the writer's answer as one number.
 abbrev pub writeResult : Written → ℕ
 writeResult (Count n) = done n
 writeResult (NotWritten r) = refused r

@@ -1,4 +1,4 @@
--- Document 01, "Program rackrun": records cut from one list of bytes by their lengths; an incomplete last one is one string, and so one torn step.
+-- Document 01, "Program rackrun": a list of bytes split into records by their lengths; an incomplete last one is one string, and so one torn step.
 use Prim.Native.Nat.{ℕ, zero, suc, _+_, min}
 use mathlib.Core.List.{List, [], _∷_}
 use lib.ListN.{length, take, drop}

@@ -7,9 +7,30 @@ use lib.ListN.{length, getD, take}
 use lib.Dec.{eqb, ltb}
 use Rattle.spec_base.specs.Folds.{toℕ, all}
 use Rattle.spec_wire.specs.declared.Field.{Field}
-use Rattle.spec_wire.specs.declared.Tags.{Tags}
 use Rattle.spec_wire.specs.declared.Step.{Step}
 use Rattle.spec_wire.specs.declared.Step.the-variants.{Load, Store, Send, Deliver, Raise, Lower, Forward}
+
+-- The kind bytes.
+abbrev pub loadKind : ℕ
+loadKind = 0x10
+
+abbrev pub storeKind : ℕ
+storeKind = 0x11
+
+abbrev pub sendKind : ℕ
+sendKind = 0x12
+
+abbrev pub deliverKind : ℕ
+deliverKind = 0x13
+
+abbrev pub raiseKind : ℕ
+raiseKind = 0x14
+
+abbrev pub lowerKind : ℕ
+lowerKind = 0x15
+
+abbrev pub forwardKind : ℕ
+forwardKind = 0x16
 
 -- The fields: the tag, the width of the value in bytes, and what the value stays below.
 abbrev pub component : Field
@@ -54,16 +75,16 @@ fieldTagged t (f ∷ fs) = cond (eqb t (f .tag)) f (fieldTagged t fs)
 unfoldable pub fieldOf : ℕ → Field
 fieldOf t = fieldTagged t allFields
 
--- A step is told by twelve numbers: the kind byte at place 0, and the value of the field with tag t at place t, 0 where the kind has none.
+-- A step as an array of twelve numbers: the kind byte at index 0, the value of the field with tag t at index t, 0 if the kind has no such field.
 -- Yes is 1 and no is 0.
 unfoldable pub fieldArray : Step → List ℕ
-fieldArray (Load c b w) = 0x10 ∷ c ∷ b ∷ w ∷ 0 ∷ 0 ∷ 0 ∷ 0 ∷ 0 ∷ 0 ∷ 0 ∷ 0 ∷ []
-fieldArray (Store c b w v) = 0x11 ∷ c ∷ b ∷ w ∷ v ∷ 0 ∷ 0 ∷ 0 ∷ 0 ∷ 0 ∷ 0 ∷ 0 ∷ []
-fieldArray (Send c b t p o d) = 0x12 ∷ c ∷ b ∷ 0 ∷ 0 ∷ t ∷ p ∷ toℕ o ∷ toℕ d ∷ 0 ∷ 0 ∷ 0 ∷ []
-fieldArray (Deliver i) = 0x13 ∷ 0 ∷ 0 ∷ 0 ∷ 0 ∷ 0 ∷ 0 ∷ 0 ∷ 0 ∷ i ∷ 0 ∷ 0 ∷ []
-fieldArray (Raise c b) = 0x14 ∷ c ∷ b ∷ 0 ∷ 0 ∷ 0 ∷ 0 ∷ 0 ∷ 0 ∷ 0 ∷ 0 ∷ 0 ∷ []
-fieldArray (Lower c b) = 0x15 ∷ c ∷ b ∷ 0 ∷ 0 ∷ 0 ∷ 0 ∷ 0 ∷ 0 ∷ 0 ∷ 0 ∷ 0 ∷ []
-fieldArray (Forward c b) = 0x16 ∷ c ∷ b ∷ 0 ∷ 0 ∷ 0 ∷ 0 ∷ 0 ∷ 0 ∷ 0 ∷ 0 ∷ 0 ∷ []
+fieldArray (Load c b w) = loadKind ∷ c ∷ b ∷ w ∷ 0 ∷ 0 ∷ 0 ∷ 0 ∷ 0 ∷ 0 ∷ 0 ∷ 0 ∷ []
+fieldArray (Store c b w v) = storeKind ∷ c ∷ b ∷ w ∷ v ∷ 0 ∷ 0 ∷ 0 ∷ 0 ∷ 0 ∷ 0 ∷ 0 ∷ []
+fieldArray (Send c b t p o d) = sendKind ∷ c ∷ b ∷ 0 ∷ 0 ∷ t ∷ p ∷ toℕ o ∷ toℕ d ∷ 0 ∷ 0 ∷ 0 ∷ []
+fieldArray (Deliver i) = deliverKind ∷ 0 ∷ 0 ∷ 0 ∷ 0 ∷ 0 ∷ 0 ∷ 0 ∷ 0 ∷ i ∷ 0 ∷ 0 ∷ []
+fieldArray (Raise c b) = raiseKind ∷ c ∷ b ∷ 0 ∷ 0 ∷ 0 ∷ 0 ∷ 0 ∷ 0 ∷ 0 ∷ 0 ∷ 0 ∷ []
+fieldArray (Lower c b) = lowerKind ∷ c ∷ b ∷ 0 ∷ 0 ∷ 0 ∷ 0 ∷ 0 ∷ 0 ∷ 0 ∷ 0 ∷ 0 ∷ []
+fieldArray (Forward c b) = forwardKind ∷ c ∷ b ∷ 0 ∷ 0 ∷ 0 ∷ 0 ∷ 0 ∷ 0 ∷ 0 ∷ 0 ∷ 0 ∷ []
 
 -- the kind byte among the numbers, and the value of a field
 abbrev pub kindIn : List ℕ → ℕ
@@ -72,7 +93,7 @@ kindIn p = getD p 0 0
 abbrev pub valueOf : Field → List ℕ → ℕ
 valueOf f p = getD p (f .tag) 0
 
--- A kind: its kind byte, its fields in rising order of their tags, and the step that the numbers tell.
+-- A kind: its kind byte, its fields in rising order of their tags, and the step that an array encodes.
 pub record Kind : Type 0 where
   pub code : ℕ
   pub fields : List Field
@@ -81,27 +102,27 @@ pub record Kind : Type 0 where
 abbrev pub kinds : List Kind
 kinds =
     record {
-      code = 0x10;
+      code = loadKind;
       fields = component ∷ block ∷ word ∷ [];
       step = λ p. Load (valueOf component p) (valueOf block p) (valueOf word p);
     }
     ∷ record {
-      code = 0x11;
+      code = storeKind;
       fields = component ∷ block ∷ word ∷ value ∷ [];
       step = λ p. Store (valueOf component p) (valueOf block p) (valueOf word p) (valueOf value p);
     }
     ∷ record {
-      code = 0x12;
+      code = sendKind;
       fields = component ∷ block ∷ target ∷ plain ∷ owner ∷ «data» ∷ [];
       step = λ p. Send (valueOf component p) (valueOf block p) (valueOf target p) (valueOf plain p) (eqb (valueOf owner p) 1) (eqb (valueOf «data» p) 1);
     }
-    ∷ record { code = 0x13; fields = position ∷ []; step = λ p. Deliver (valueOf position p) }
-    ∷ record { code = 0x14; fields = component ∷ block ∷ []; step = λ p. Raise (valueOf component p) (valueOf block p) }
-    ∷ record { code = 0x15; fields = component ∷ block ∷ []; step = λ p. Lower (valueOf component p) (valueOf block p) }
-    ∷ record { code = 0x16; fields = component ∷ block ∷ []; step = λ p. Forward (valueOf component p) (valueOf block p) }
+    ∷ record { code = deliverKind; fields = position ∷ []; step = λ p. Deliver (valueOf position p) }
+    ∷ record { code = raiseKind; fields = component ∷ block ∷ []; step = λ p. Raise (valueOf component p) (valueOf block p) }
+    ∷ record { code = lowerKind; fields = component ∷ block ∷ []; step = λ p. Lower (valueOf component p) (valueOf block p) }
+    ∷ record { code = forwardKind; fields = component ∷ block ∷ []; step = λ p. Forward (valueOf component p) (valueOf block p) }
     ∷ []
 
--- what stands for a kind where there is none with a kind byte: no bytes have its field, so it never gives a step
+-- placeholder for an unknown kind byte: its only field matches no bytes, so it never parses
 abbrev pub noKind : Kind
 noKind = record { code = 0; fields = noField ∷ []; step = λ p. Deliver 0 }
 
@@ -120,9 +141,3 @@ inBounds fs p = all (λ f. ltb (valueOf f p) (f .limit)) fs
 -- a step whose numbers fit their fields, as those of the code's steps do
 abbrev pub stepInBounds : Step → Bool
 stepInBounds s = inBounds (kindOf (kindIn (fieldArray s)) .fields) (fieldArray s)
-
--- the code's tags of a kind's fields
-pub record TagsOf (kind : ℕ) (t : Tags) : Type 0 where
-  pub few : t .count ≤ 6
-  pub long : t .count ≤ length (t .tags)
-  pub fields : map fieldOf (take (t .count) (t .tags)) ≡ kindOf kind .fields

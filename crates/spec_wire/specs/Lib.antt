@@ -1,9 +1,11 @@
-pub mod Refusals
-pub mod Results
 pub mod Kinds
 pub mod StepRecord
 pub mod Reader
 pub mod Writer
-pub mod FieldArray
 pub mod RoundTrip
+pub mod FieldArray
+pub mod Refusals
 pub mod Frames
+pub mod Results
+pub mod AnswerNumbers
+pub mod Readings

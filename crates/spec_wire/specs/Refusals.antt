@@ -1,5 +1,7 @@
 -- Document 01, "Refusal table": the numbers of the refusals, and how a run down the table goes.
-use Prim.Native.Nat.{ℕ}
+use Prim.Native.Nat.{ℕ, _-_}
+use mathlib.Core.List.{List, [], _∷_}
+use lib.ListN.{getD}
 use mathlib.Core.Bool.{Bool, true, false}
 use Rattle.spec_wire.specs.declared.Refusal.{Refusal}
 use Rattle.spec_wire.specs.declared.Refusal.the-variants.{Torn, Unsound, OffRack, Home, NoToken, NoData, Short, SelfSend, Claimed, Empty, NotHeld, BareOwner, MeshFull, NoMessage, Waiting, Barred, NotWaiting, Unclaimed, Size, ShortBuffer}
@@ -28,6 +30,15 @@ number NotWaiting = 17
 number Unclaimed = 18
 number Size = 19
 number ShortBuffer = 20
+
+-- the table, and the refusal with a number of it
+abbrev pub table : List Refusal
+table =
+    Torn ∷ Unsound ∷ OffRack ∷ Home ∷ NoToken ∷ NoData ∷ Short ∷ SelfSend ∷ Claimed ∷ Empty ∷ NotHeld ∷ BareOwner ∷ MeshFull ∷ NoMessage ∷ Waiting ∷ Barred
+    ∷ NotWaiting ∷ Unclaimed ∷ Size ∷ ShortBuffer ∷ []
+
+abbrev pub numbered : ℕ → Refusal
+numbered n = getD table (n - 1) Torn
 
 infixr 5 when_refuse_else_
 -- a line of the table: the refusal where the test passes, and the lines below it where the test fails

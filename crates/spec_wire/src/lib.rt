@@ -1,4 +1,4 @@
-// Step records and the refusal table: types. There is no code.
+// Step records and the refusal table: types, kind bytes and tags. There is no code.
 
 // A line of the table for each number, in the order of the numbers.
 pub enum Refusal {
@@ -81,14 +81,41 @@ pub struct Field {
     pub limit: u64,
 }
 
-// The tags of a kind's fields: the first `count`.
-pub struct Tags {
-    pub count: usize,
-    pub tags: [u8; 6],
-}
-
 // What writing a step gives: the count of bytes placed, or a refusal.
 pub enum Written {
     Count(usize),
     Refused(Refusal),
 }
+
+// Kind bytes and tags of step records: specs/Kinds.antt has the same numbers, and the contracts tie the two.
+pub const KIND_LOAD: u8 = 0x10;
+
+pub const KIND_STORE: u8 = 0x11;
+
+pub const KIND_SEND: u8 = 0x12;
+
+pub const KIND_DELIVER: u8 = 0x13;
+
+pub const KIND_RAISE: u8 = 0x14;
+
+pub const KIND_LOWER: u8 = 0x15;
+
+pub const KIND_FORWARD: u8 = 0x16;
+
+pub const TAG_COMPONENT: u8 = 0x01;
+
+pub const TAG_BLOCK: u8 = 0x02;
+
+pub const TAG_WORD: u8 = 0x03;
+
+pub const TAG_VALUE: u8 = 0x04;
+
+pub const TAG_TARGET: u8 = 0x05;
+
+pub const TAG_PLAIN: u8 = 0x06;
+
+pub const TAG_OWNER: u8 = 0x07;
+
+pub const TAG_DATA: u8 = 0x08;
+
+pub const TAG_POSITION: u8 = 0x09;

@@ -7,6 +7,7 @@ ghost use Rattle.spec_rack.specs.Entries.{replyToStep, bufferAfter};
 use base::wide;
 use spec_rack::Answer;
 use spec_rack::Reply;
+use spec_rack::TOKEN_COUNT_OFFSET;
 use spec_wire::Check;
 use spec_wire::Refusal;
 use spec_wire::Step;
@@ -42,7 +43,7 @@ fn store_check(rec: &[u8], component: u8, block: u8, word: u8, value: u32) -> Ch
         return Check::Refuse(Refusal::Home);
     }
     let state = record::cells::token_state(rec, block, component);
-    if step_checks::tokens::held(state) < wide(rec[2]) {
+    if step_checks::tokens::held(state) < wide(rec[TOKEN_COUNT_OFFSET]) {
         return Check::Refuse(Refusal::Short);
     }
     Check::Pass

@@ -8,18 +8,18 @@ use native.Mathlib.Omega.{arith}
 use borrow.Author.Tests.{ltb-false, leb-false, eqb-false}
 use lib.Dec.{eqb, leb, ltb}
 use lib.ListN.{length, getD}
-use Rattle.spec_base.proofs.Tests.{or-l, or-r}
+use Rattle.spec_base.proofs.Tests.{or-l}
 use Rattle.spec_wire.specs.declared.Refusal.the-variants.{OffRack, Home}
 use Rattle.spec_wire.specs.declared.Check.{Check}
 use Rattle.spec_wire.specs.declared.Check.the-variants.{Pass}
 use Rattle.spec_wire.specs.Refusals.{when_refuse_else_}
 use Rattle.spec_wire.proofs.RefusalTable.{past}
-use Rattle.spec_wire.specs.declared.Step.the-variants.{Load, Store, Send, Deliver, Raise, Lower, Forward}
+use Rattle.spec_wire.specs.declared.Step.the-variants.{Store, Send, Deliver, Raise, Lower, Forward}
 use Rattle.spec_rack.specs.Rack.{meshLimit, cellAt}
 use Rattle.spec_rack.specs.Rules.{check, offRack, meshFull}
-use Rattle.spec_rack.specs.RecordLayout.{get}
+use Rattle.spec_rack.specs.RecordLayout.{get, messagesIn}
 use Rattle.record.specs.Needs.{CellInRecord, SoundRecord}
-use Rattle.spec_rack.proofs.GetPut.{boards-is, blocks-is, mesh-is}
+use Rattle.spec_rack.proofs.GetPut.{mesh-is}
 use Rattle.step_checks.specs.Sendable.{CanSend}
 use Rattle.step_checks.proofs.RackBounds.{in-cell, on-word}
 
@@ -35,7 +35,7 @@ module _ (s : List ℕ) (ready : SoundRecord s) where
       let ne : c ≡ 0 → ⊥ = eqb-false c 0 (past _ _ _ (known .1) .0) in
       (on-rack c b (known .0), omega arith)
 
-  room : meshFull (get s) ≡ false → getD s 3 0 < 64
+  room : meshFull (get s) ≡ false → messagesIn s < 64
   unfolding meshLimit
   room h = omega (arith, mesh-is s, leb-false 64 (length (get s .mesh)) h)
 
@@ -63,7 +63,7 @@ module _ (s : List ℕ) (ready : SoundRecord s) where
         room = room (full .0);
       }
 
-  pub deliver-passed : (i : ℕ) → check (get s) (Deliver i) ≡ Pass → i < getD s 3 0
+  pub deliver-passed : (i : ℕ) → check (get s) (Deliver i) ≡ Pass → i < messagesIn s
   unfolding check
   deliver-passed i h = omega (arith, mesh-is s, leb-false (length (get s .mesh)) i (past _ _ _ h .0))
 

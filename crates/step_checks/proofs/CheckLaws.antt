@@ -2,7 +2,7 @@
 -- knows at its return: of every call its result's figure of the rack, of every branch the way that it went.
 use Prim.Native.Nat.{ℕ, _+_, _≤_, _<_}
 use native.Mathlib.Omega.{arith}
-use mathlib.Core.Path.{_≡_, sym, _∙_}
+use mathlib.Core.Path.{_≡_, refl, sym, ap, _∙_}
 use mathlib.Core.Bool.{Bool, true, false, not, _||_}
 use lib.Dec.{eqb, ltb}
 use lib.ListN.{length}
@@ -11,6 +11,7 @@ use Rattle.spec_base.specs.Folds.{toℕ}
 use Rattle.spec_wire.specs.declared.Refusal.the-variants.{OffRack, Home, NoToken, NoData, Short, NoMessage}
 use Rattle.spec_wire.specs.declared.Check.{Check}
 use Rattle.spec_wire.specs.declared.Check.the-variants.{Pass, Refuse}
+use Rattle.spec_wire.specs.Refusals.{when_refuse_else_}
 use Rattle.spec_wire.proofs.RefusalTable.{table}
 use Rattle.spec_wire.specs.declared.Step.the-variants.{Load, Store, Send, Deliver, Raise, Lower, Forward}
 use Rattle.spec_rack.specs.Claims.{raiseCheck, lowerCheck}
@@ -18,8 +19,10 @@ use Rattle.spec_rack.specs.Rack.{Cell, Rack, claimsAt, cellAt, held}
 use Rattle.spec_rack.specs.Rules.{check, offRack}
 use Rattle.record.specs.declared.TokenState.{TokenState}
 use Rattle.record.specs.Changes.{TokenStateOf}
+use Rattle.spec_base.proofs.Tests.{differs}
+use Rattle.step_checks.specs.Checked.{isPass, boardLines}
 
--- the state tell how many tokens the cell holds
+-- the token state has the count of tokens that the cell holds
 pub held-is : {x : Cell} {m : TokenState} {h : ℕ} → TokenStateOf x m → h ≡ m .plain + toℕ (m .owner) → h ≡ held x
 held-is state tokens = tokens ∙ (λ i. state .plain i + toℕ (state .owner i))
 
@@ -81,37 +84,63 @@ module _ (r : Rack) (c b : ℕ) {off : Bool} (off-is : off ≡ offRack r c b) wh
     unfolding check
     send-off-rack t p o d = search (table, sym off-is ∙ off-rack) depth 10
 
-    pub raise-off-rack : Refuse OffRack ≡ check r (Raise c b)
-    unfolding check
-    raise-off-rack = search (table, sym off-is ∙ off-rack) depth 10
-
-    pub lower-off-rack : Refuse OffRack ≡ check r (Lower c b)
-    unfolding check
-    lower-off-rack = search (table, sym off-is ∙ off-rack) depth 10
-
     pub forward-off-rack : Refuse OffRack ≡ check r (Forward c b)
     unfolding check
     forward-off-rack = search (table, sym off-is ∙ off-rack) depth 10
 
-  module _ (on-rack : off ≡ false) where
-    module _ {home : Bool} (home-is : home ≡ eqb c 0) where
-      module _ (at-home : home ≡ true) where
-        pub raise-home : Refuse Home ≡ check r (Raise c b)
-        unfolding check
-        raise-home = search (table, sym off-is ∙ on-rack, sym home-is ∙ at-home) depth 10
+-- ---- the two lines that a raise and a lower begin with
 
-        pub lower-home : Refuse Home ≡ check r (Lower c b)
-        unfolding check
-        lower-home = search (table, sym off-is ∙ on-rack, sym home-is ∙ at-home) depth 10
+module _ (r : Rack) (c b : ℕ) {off : Bool} (off-is : off ≡ offRack r c b) where
+  pub board-off-rack : off ≡ true → Refuse OffRack ≡ boardLines r c b Pass
+  unfolding boardLines
+  board-off-rack off-rack = search (table, sym off-is ∙ off-rack) depth 10
 
-      module _ (away : home ≡ false) {y : Check} where
-        pub raise-verdict : y ≡ raiseCheck (claimsAt r b) c → y ≡ check r (Raise c b)
-        unfolding check
-        raise-verdict e = search (table, sym off-is ∙ on-rack, sym home-is ∙ away) depth 10
+  module _ (on-rack : off ≡ false) {home : Bool} (home-is : home ≡ eqb c 0) where
+    pub board-home : home ≡ true → Refuse Home ≡ boardLines r c b Pass
+    unfolding boardLines
+    board-home at-home = search (table, sym off-is ∙ on-rack, sym home-is ∙ at-home) depth 10
 
-        pub lower-verdict : y ≡ lowerCheck (claimsAt r b) c → y ≡ check r (Lower c b)
-        unfolding check
-        lower-verdict e = search (table, sym off-is ∙ on-rack, sym home-is ∙ away) depth 10
+    pub board-pass : home ≡ false → Pass ≡ boardLines r c b Pass
+    unfolding boardLines
+    board-pass away = search (table, sym off-is ∙ on-rack, sym home-is ∙ away) depth 10
+
+pub raise-lines : (r : Rack) (c b : ℕ) → boardLines r c b (raiseCheck (claimsAt r b) c) ≡ check r (Raise c b)
+unfolding check boardLines
+raise-lines r c b = refl
+
+pub lower-lines : (r : Rack) (c b : ℕ) → boardLines r c b (lowerCheck (claimsAt r b) c) ≡ check r (Lower c b)
+unfolding check boardLines
+lower-lines r c b = refl
+
+-- their verdict: where it refuses, the whole table does, and where it passes, the rest of the table is the verdict
+module _ (r : Rack) (c b : ℕ) {k : Check} {p : Bool} (is : k ≡ boardLines r c b Pass) (p-is : p ≡ isPass k) where
+  pub board-refused : (rest : Check) → not p ≡ true → k ≡ boardLines r c b rest
+  unfolding boardLines when_refuse_else_
+  board-refused rest refused = by-tests (offRack r c b) (eqb c 0) is
+    where
+      by-tests : (off home : Bool) → k ≡ (when off refuse OffRack else when home refuse Home else Pass) → k ≡ (when off refuse OffRack else when home refuse Home else rest)
+      by-tests true home e = e
+      by-tests false true e = e
+      by-tests false false e = differs (sym (ap isPass e) ∙ sym p-is ∙ not-true p refused)
+
+  module _ (passed : not p ≡ false) where
+    both-fail : (off home : Bool) → k ≡ (when off refuse OffRack else when home refuse Home else Pass) → (off ≡ false) × (home ≡ false)
+    unfolding when_refuse_else_
+    both-fail true home e = differs (sym (not-false p passed) ∙ p-is ∙ ap isPass e)
+    both-fail false true e = differs (sym (not-false p passed) ∙ p-is ∙ ap isPass e)
+    both-fail false false e = (refl, refl)
+
+    pub board-on : offRack r c b ≡ false
+    unfolding boardLines
+    board-on = both-fail (offRack r c b) (eqb c 0) is .0
+
+    pub board-away : eqb c 0 ≡ false
+    unfolding boardLines
+    board-away = both-fail (offRack r c b) (eqb c 0) is .1
+
+    pub board-rest : {y rest : Check} → y ≡ rest → y ≡ boardLines r c b rest
+    unfolding boardLines
+    board-rest e = search (table, board-on, board-away, e) depth 10
 
 -- ---- deliver
 

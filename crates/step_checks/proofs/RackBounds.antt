@@ -13,24 +13,23 @@ use Rattle.spec_base.specs.Number.{Bytes}
 use Rattle.spec_base.specs.Layout.{slice}
 use Rattle.spec_wire.specs.declared.Check.{Check}
 use Rattle.spec_rack.specs.Claims.{Claims}
-use Rattle.spec_rack.specs.RecordLayout.{claims}
+use Rattle.spec_rack.specs.RecordLayout.{claims, blockOffset, claimsOffset, get, blocksIn, boardsIn, claimsSize, messagesIn}
 use Rattle.spec_rack.specs.Rack.{meshLimit, claimsAt}
 use Rattle.spec_rack.specs.Rules.{offRack, meshFull}
-use Rattle.spec_rack.specs.RecordLayout.{blockOffset, claimsOffset, get}
 use Rattle.record.specs.Needs.{InLayout, CellInRecord}
 use Rattle.spec_rack.proofs.GetPut.{boards-is, blocks-is, mesh-is}
 use Rattle.step_checks.proofs.ClaimsInRecord.{claims-room, claims-read}
 
 -- ---- the tests that the code makes on the bytes
 
-off-rack-is : (s : List ℕ) (c b : ℕ) → (ltb (getD s 0 0) c || leb (getD s 1 0) b) ≡ offRack (get s) c b
+off-rack-is : (s : List ℕ) (c b : ℕ) → (ltb (boardsIn s) c || leb (blocksIn s) b) ≡ offRack (get s) c b
 off-rack-is s c b = λ i. ltb (sym (boards-is s) i) c || leb (sym (blocks-is s) i) b
 
-pub component-off : (s : List ℕ) (c b : ℕ) → getD s 0 0 < c → true ≡ offRack (get s) c b
-component-off s c b l = sym (or-left (ltb (getD s 0 0) c) (leb (getD s 1 0) b) (lt-ltb (getD s 0 0) c l)) ∙ off-rack-is s c b
+pub component-off : (s : List ℕ) (c b : ℕ) → boardsIn s < c → true ≡ offRack (get s) c b
+component-off s c b l = sym (or-left (ltb (boardsIn s) c) (leb (blocksIn s) b) (lt-ltb (boardsIn s) c l)) ∙ off-rack-is s c b
 
-pub block-test : (s : List ℕ) (c b : ℕ) → c ≤ getD s 0 0 → leb (getD s 1 0) b ≡ offRack (get s) c b
-block-test s c b l = ap (λ (t : Bool). t || leb (getD s 1 0) b) (sym (le-ltb (getD s 0 0) c l)) ∙ off-rack-is s c b
+pub block-test : (s : List ℕ) (c b : ℕ) → c ≤ boardsIn s → leb (blocksIn s) b ≡ offRack (get s) c b
+block-test s c b l = ap (λ (t : Bool). t || leb (blocksIn s) b) (sym (le-ltb (boardsIn s) c l)) ∙ off-rack-is s c b
 
 module _ {off : Bool} (s : List ℕ) (c b w : ℕ) (is : off ≡ offRack (get s) c b) where
   pub off-word : off ≡ true → true ≡ (offRack (get s) c b || ltb 7 w)
@@ -43,33 +42,33 @@ module _ {off : Bool} (s : List ℕ) (c b w : ℕ) (is : off ≡ offRack (get s)
 pub on-of : {off : Bool} (s : List ℕ) (c b w : ℕ) → off ≡ (offRack (get s) c b || ltb 7 w) → off ≡ false → offRack (get s) c b ≡ false
 on-of s c b w is on = or-l (offRack (get s) c b) (ltb 7 w) (sym is ∙ on)
 
-pub full-is : (s : List ℕ) → leb 64 (getD s 3 0) ≡ meshFull (get s)
+pub full-is : (s : List ℕ) → leb 64 (messagesIn s) ≡ meshFull (get s)
 unfolding meshLimit
 full-is s = ap (leb 64) (sym (mesh-is s))
 
 -- ---- after the test for off rack
 
 module _ (s : List ℕ) (c b : ℕ) {off : Bool} (is : off ≡ offRack (get s) c b) (on : off ≡ false) where
-  tests : (ltb (getD s 0 0) c || leb (getD s 1 0) b) ≡ false
+  tests : (ltb (boardsIn s) c || leb (blocksIn s) b) ≡ false
   tests = off-rack-is s c b ∙ sym is ∙ on
 
-  component-on : c ≤ getD s 0 0
-  component-on = ltb-false (getD s 0 0) c (or-l (ltb (getD s 0 0) c) (leb (getD s 1 0) b) tests)
+  component-on : c ≤ boardsIn s
+  component-on = ltb-false (boardsIn s) c (or-l (ltb (boardsIn s) c) (leb (blocksIn s) b) tests)
 
-  pub block-on : b < getD s 1 0
-  block-on = leb-false (getD s 1 0) b (or-r (ltb (getD s 0 0) c) (leb (getD s 1 0) b) tests)
+  pub block-on : b < blocksIn s
+  block-on = leb-false (blocksIn s) b (or-r (ltb (boardsIn s) c) (leb (blocksIn s) b) tests)
 
   pub in-cell : InLayout s → CellInRecord s b c
   in-cell whole = record { whole = whole; block = block-on; component = component-on }
 
   -- what a verdict on a board's claim asks, and where it is read
   module _ (whole : InLayout s) (at : ℕ) (e : at ≡ blockOffset b + claimsOffset) where
-    pub board-claims : (at + 34 ≤ length s) × (c < 16)
+    pub board-claims : (at + claimsSize ≤ length s) × (c < 16)
     board-claims = (claims-room s whole b block-on at e, omega (arith, whole .boards, component-on))
 
-    pub verdict-here : {y : Check} → Bytes s → (f : Claims → ℕ → Check) → ((n : ℕ) → c ≤ n → n < 16 → y ≡ f (claims n .read (slice at 34 s)) c) → y ≡ f (claimsAt (get s) b) c
+    pub verdict-here : {y : Check} → Bytes s → (f : Claims → ℕ → Check) → ((n : ℕ) → c ≤ n → n < 16 → y ≡ f (claims n .read (slice at claimsSize s)) c) → y ≡ f (claimsAt (get s) b) c
     verdict-here bytes f h =
-        h (getD s 0 0) component-on (omega (arith, whole .boards))
+        h (boardsIn s) component-on (omega (arith, whole .boards))
         ∙ ap (λ (k : Claims). f k c) (claims-read s whole b block-on at e bytes)
 
 -- after the test for the home memory

@@ -13,14 +13,13 @@ use Rattle.spec_rack.specs.declared.Answer.{Answer}
 use Rattle.spec_rack.specs.declared.Answer.the-variants.{Done}
 use Rattle.spec_rack.specs.declared.Reply.{Reply}
 use Rattle.spec_rack.specs.declared.Reply.the-variants.{Accepted, Refused}
-use Rattle.spec_rack.specs.Rules.{check, answer, after, rules}
+use Rattle.spec_rack.specs.Rules.{check, answer, after, rules, replyOf}
 use Rattle.spec_rack.specs.RecordLayout.{get, put}
 use Rattle.record.specs.Needs.{InLayout}
 use Rattle.spec_rack.proofs.GetPut.{put-get}
 use Rattle.record.proofs.FieldAccess.{wellFormed}
 use Rattle.spec_rack.specs.Entries.{replyToStep, bufferAfter}
 use Rattle.step_checks.specs.Checked.{isPass}
-use Rattle.spec_rack.specs.Rules.{replyOf}
 
 module _ (s : List ℕ) (t : Step) where
   -- the reply of each line

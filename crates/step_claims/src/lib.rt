@@ -5,20 +5,18 @@ ghost use Rattle.spec_rack.specs.RecordLayout.{get};
 ghost use Rattle.record.specs.Needs.{InLayout, SoundRecord};
 ghost use Rattle.spec_rack.specs.Entries.{replyToStep, bufferAfter};
 use spec_rack::Answer;
+use spec_rack::BOARD_COUNT_OFFSET;
 use spec_rack::Reply;
 use spec_wire::Check;
-use spec_wire::Refusal;
 use spec_wire::Step;
 
 fn raise_check(rec: &[u8], component: u8, block: u8) -> Check
     requires { ⌜ InLayout (now rec) ⌝ }
     ensures { λ r. ⌜ r ≡ check (get (now (rec .entry))) (Step.Raise component block) ⌝ }
 {
-    if step_checks::checks::off_rack(rec, component, block) {
-        return Check::Refuse(Refusal::OffRack);
-    }
-    if step_checks::checks::at_home(component) {
-        return Check::Refuse(Refusal::Home);
+    let first = step_checks::checks::board_check(rec, component, block);
+    if !step_checks::checks::is_pass(first) {
+        return first;
     }
     arbiter::claims::raise_check(rec, step_checks::checks::claims_offset(block), component)
 }
@@ -27,11 +25,9 @@ fn lower_check(rec: &[u8], component: u8, block: u8) -> Check
     requires { ⌜ InLayout (now rec) ⌝ }
     ensures { λ r. ⌜ r ≡ check (get (now (rec .entry))) (Step.Lower component block) ⌝ }
 {
-    if step_checks::checks::off_rack(rec, component, block) {
-        return Check::Refuse(Refusal::OffRack);
-    }
-    if step_checks::checks::at_home(component) {
-        return Check::Refuse(Refusal::Home);
+    let first = step_checks::checks::board_check(rec, component, block);
+    if !step_checks::checks::is_pass(first) {
+        return first;
     }
     arbiter::claims::lower_check(rec, step_checks::checks::claims_offset(block), component)
 }
@@ -56,7 +52,7 @@ pub fn lower(rec: &mut [u8], component: u8, block: u8) -> Reply
 {
     let verdict = lower_check(rec, component, block);
     if step_checks::checks::is_pass(verdict) {
-        let boards = rec[0];
+        let boards = rec[BOARD_COUNT_OFFSET];
         arbiter::change::lower_at(
             rec,
             step_checks::checks::claims_offset(block),

@@ -14,7 +14,7 @@ use Rattle.spec_wire.specs.Refusals.{when_refuse_else_}
 use Rattle.spec_rack.specs.Rack.{Cell}
 use Rattle.spec_rack.specs.Rules.{offRack}
 use Rattle.record.specs.declared.TokenState.{TokenState}
-use Rattle.spec_rack.specs.RecordLayout.{get}
+use Rattle.spec_rack.specs.RecordLayout.{get, boardsIn}
 use Rattle.record.specs.Changes.{TokenStateOf}
 use Rattle.spec_rack.proofs.GetPut.{boards-is}
 use Rattle.step_transfer.specs.Lines.{tokenLines}
@@ -22,7 +22,7 @@ use Rattle.step_transfer.specs.Lines.{tokenLines}
 pub line-is : {y k l : Check} {t u : Bool} (n : Refusal) → y ≡ (when t refuse n else k) → t ≡ u → k ≡ l → y ≡ (when u refuse n else l)
 line-is n e f g = e ∙ (λ i. when f i refuse n else g i)
 
--- the state tell the cell's figures
+-- the lines over a token state are the lines over its cell
 pub marks-tell : {x : Cell} {m : TokenState} → TokenStateOf x m → (p : ℕ) (o d full : Bool)
     → tokenLines m p o d full
     ≡ (when eqb (p + toℕ o) 0 refuse Empty else
@@ -41,5 +41,5 @@ marks-tell is p o d full =
     Pass
 
 -- after the test for off rack the target is what is left of the line
-pub target-is : (s : List ℕ) (c b t : ℕ) {off : Bool} → off ≡ offRack (get s) c b → off ≡ false → ltb (getD s 0 0) t ≡ (offRack (get s) c b || ltb (get s .boards) t)
+pub target-is : (s : List ℕ) (c b t : ℕ) {off : Bool} → off ≡ offRack (get s) c b → off ≡ false → ltb (boardsIn s) t ≡ (offRack (get s) c b || ltb (get s .boards) t)
 target-is s c b t is on = λ i. (sym on ∙ is) i || ltb (sym (boards-is s) i) t

@@ -1,6 +1,6 @@
 -- What the calls of a send leave together: the message at the end of the mesh, then the state less its tokens; a forward is the send of what the state tell.
-use mathlib.Core.Path.{_≡_, refl, ap, _∙_}
-use mathlib.Core.Bool.{Bool, cond}
+use mathlib.Core.Path.{_≡_, refl, sym, ap, _∙_}
+use mathlib.Core.Bool.{Bool, true, false, cond}
 use mathlib.Core.List.{List, [], _∷_, _++_}
 use Prim.Native.Nat.{ℕ, _^_, _≤_, _<_}
 use native.Mathlib.Omega.{arith}
@@ -9,7 +9,6 @@ use Rattle.spec_base.specs.Folds.{All}
 use Rattle.spec_base.proofs.Folds.{all-snoc, all-replicate, length-snoc}
 use Rattle.spec_base.specs.Number.{Bytes}
 use Rattle.spec_rack.specs.Claims.{active}
-use Rattle.spec_rack.specs.declared.Message.{Message}
 use Rattle.spec_rack.specs.Rack.{Cell, Rack, zeros, claimsAt, cellAt}
 use Rattle.spec_rack.specs.Rules.{withoutTokens, message, sent, forwarded}
 use Rattle.spec_base.proofs.Tests.{cond-of}
@@ -39,34 +38,41 @@ module _ (s : List ℕ) (bytes : Bytes s) (c b p : ℕ) (can : CanSend s c b p) 
         cond-of WordsFit d (cellAt (get s) b c .words) zeros (cell .1) zeros-fit,
       )
 
-  -- the message with the words that the code has for it
-  module _ (ws : List ℕ) (e : ws ≡ cond d (cellAt (get s) b c .words) zeros) where
-    abbrev pub carrying : Message
-    carrying = record { sender = c; target = t; block = b; plain = p; owner = o; «data» = d; words = ws }
+  -- the message with the words that the code has for it: the component's with data, and otherwise none
+  abbrev appendedTo : List ℕ → List ℕ → Type 0
+  appendedTo s₁ ws = s₁ ≡ put (withMesh (get s) (get s .mesh ++ record { sender = c; target = t; block = b; plain = p; owner = o; «data» = d; words = ws } ∷ [])) s
 
-    module _ (s₁ : List ℕ) (is : s₁ ≡ put (withMesh (get s) (get s .mesh ++ carrying ∷ [])) s) where
-      appended : s₁ ≡ put (withMesh (get s) (get s .mesh ++ message (cellAt (get s) b c) c b t p o d ∷ [])) s
-      appended =
-          is ∙ ap (λ (v : List ℕ). put (withMesh (get s) (get s .mesh ++ record { sender = c; target = t; block = b; plain = p; owner = o; «data» = d; words = v } ∷ [])) s) e
+  appended-is : (ws : List ℕ) → ws ≡ cond d (cellAt (get s) b c .words) zeros → (s₁ : List ℕ) → appendedTo s₁ ws
+      → s₁ ≡ put (withMesh (get s) (get s .mesh ++ message (cellAt (get s) b c) c b t p o d ∷ [])) s
+  appended-is ws e s₁ is = is ∙ ap (λ (v : List ℕ). put (withMesh (get s) (get s .mesh ++ record { sender = c; target = t; block = b; plain = p; owner = o; «data» = d; words = v } ∷ [])) s) e
 
-      few : length (get s .mesh ++ message (cellAt (get s) b c) c b t p o d ∷ []) ≤ 64
-      few = rw length-snoc (omega (arith, can .room, mesh-is s))
+  pub appended-data : d ≡ true → (ws : List ℕ) → ws ≡ cellAt (get s) b c .words → (s₁ : List ℕ) → appendedTo s₁ ws
+      → s₁ ≡ put (withMesh (get s) (get s .mesh ++ message (cellAt (get s) b c) c b t p o d ∷ [])) s
+  appended-data h ws e = appended-is ws (e ∙ ap (λ (u : Bool). cond u (cellAt (get s) b c .words) zeros) (sym h))
 
-      all : All MessageFits (get s .mesh ++ message (cellAt (get s) b c) c b t p o d ∷ [])
-      all = all-snoc MessageFits (get s .mesh) (message (cellAt (get s) b c) c b t p o d) (fits s bytes (can .ready) .mesh-fits) message-fit
+  pub appended-bare : d ≡ false → (s₁ : List ℕ) → appendedTo s₁ zeros
+      → s₁ ≡ put (withMesh (get s) (get s .mesh ++ message (cellAt (get s) b c) c b t p o d ∷ [])) s
+  appended-bare h = appended-is zeros (ap (λ (u : Bool). cond u (cellAt (get s) b c .words) zeros) (sym h))
 
-      pub sent-in-cell : CellInRecord s₁ b c
-      sent-in-cell = mesh-in-cell s bytes (can .ready) _ few all s₁ appended b c (can .in-cell)
+  module _ (s₁ : List ℕ) (appended : s₁ ≡ put (withMesh (get s) (get s .mesh ++ message (cellAt (get s) b c) c b t p o d ∷ [])) s) where
+    few : length (get s .mesh ++ message (cellAt (get s) b c) c b t p o d ∷ []) ≤ 64
+    few = rw length-snoc (omega (arith, can .room, mesh-is s))
 
-      pub sent-is : (state h : TokenState) → TokenStateOf (cellAt (get s) b c) state → ((y : Cell) → TokenStateOf y state → TokenStateOf (withoutTokens y p o) h)
-          → (s₂ : List ℕ) → s₂ ≡ put (replaceCell (get s₁) b c (withTokenState (cellAt (get s₁) b c) h)) s₁ → s₂ ≡ put (sent (get s) c b t p o d) s
-      unfolding sent
-      sent-is state h told takes s₂ is′ =
-          mesh-cell s bytes (can .ready) _ few all s₁ appended b c (can .in-cell) (withoutTokens (cellAt (get s) b c) p o)
-          ((omega (arith, cell .0 .0), (tt, tt)), cell .1) s₂
-          (is′ ∙ ap (λ (y : Cell). put (replaceCell (get s₁) b c y) s₁)
-          (filled-is (withoutTokens (cellAt (get s) b c) p o) h (cellAt (get s₁) b c .words) (takes (cellAt (get s) b c) told)
-          (ap (λ (k : Rack). cellAt k b c .words) (mesh-read s bytes (can .ready) _ few all s₁ appended))))
+    all : All MessageFits (get s .mesh ++ message (cellAt (get s) b c) c b t p o d ∷ [])
+    all = all-snoc MessageFits (get s .mesh) (message (cellAt (get s) b c) c b t p o d) (fits s bytes (can .ready) .mesh-fits) message-fit
+
+    pub sent-in-cell : CellInRecord s₁ b c
+    sent-in-cell = mesh-in-cell s bytes (can .ready) _ few all s₁ appended b c (can .in-cell)
+
+    pub sent-is : (state h : TokenState) → TokenStateOf (cellAt (get s) b c) state → ((y : Cell) → TokenStateOf y state → TokenStateOf (withoutTokens y p o) h)
+        → (s₂ : List ℕ) → s₂ ≡ put (replaceCell (get s₁) b c (withTokenState (cellAt (get s₁) b c) h)) s₁ → s₂ ≡ put (sent (get s) c b t p o d) s
+    unfolding sent
+    sent-is state h told takes s₂ is′ =
+        mesh-cell s bytes (can .ready) _ few all s₁ appended b c (can .in-cell) (withoutTokens (cellAt (get s) b c) p o)
+        ((omega (arith, cell .0 .0), (tt, tt)), cell .1) s₂
+        (is′ ∙ ap (λ (y : Cell). put (replaceCell (get s₁) b c y) s₁)
+        (filled-is (withoutTokens (cellAt (get s) b c) p o) h (cellAt (get s₁) b c .words) (takes (cellAt (get s) b c) told)
+        (ap (λ (k : Rack). cellAt k b c .words) (mesh-read s bytes (can .ready) _ few all s₁ appended))))
 
 -- ---- a forward: the send of what the state tell to the active board
 

@@ -6,6 +6,7 @@ ghost use Rattle.spec_rack.specs.RecordLayout.{get, put};
 ghost use Rattle.record.specs.Needs.{SoundRecord};
 ghost use Rattle.spec_rack.specs.Entries.{replyToStep, bufferAfter};
 use spec_rack::Answer;
+use spec_rack::MESSAGE_COUNT_OFFSET;
 use spec_rack::Reply;
 use spec_wire::Refusal;
 use spec_wire::Step;
@@ -33,7 +34,7 @@ pub fn deliver(rec: &mut [u8], position: u8) -> Reply
     ensures reply { λ r. ⌜ r ≡ replyToStep (now (rec .entry)) (Step.Deliver position) ⌝ }
     ensures buffer { λ r. ⌜ now (rec .exit) ≡ bufferAfter (now (rec .entry)) (Step.Deliver position) ⌝ }
 {
-    if rec[3] <= position {
+    if rec[MESSAGE_COUNT_OFFSET] <= position {
         return Reply::Refused(Refusal::NoMessage);
     }
     deliver_message(rec, position);

@@ -1,4 +1,5 @@
-// Step records, written and read again, and read and written again; exports.rt has the reader and the writer for C.
+// Round trips of step records on running code; `exports` has the reader and the writer for C.
+// order: exports, lib
 ghost use mathlib.Core.Path.{_≡_};
 ghost use Rattle.spec_wire.specs.declared.Reading.{Reading};
 ghost use Rattle.spec_wire.specs.RoundTrip.{rewritten, replaced};

@@ -21,6 +21,8 @@ use Rattle.spec_wire.specs.Reader.{hasHeader, valueAt, fieldParses, bodyParses,
 use Rattle.wire_reader.specs.Parsing.{FieldRoom, FieldParsed}
 use Rattle.spec_wire.proofs.Fields.{filled}
 use Rattle.spec_wire.proofs.BodyTrips.{torn-body, step-body}
+use Rattle.spec_base.specs.Layout.{slice, big}
+use Rattle.spec_base.proofs.WordBytes.{big-read}
 
 -- ---- one field
 
@@ -43,8 +45,8 @@ module _ (f : Field) (s : List ℕ) (at : ℕ) (r : FieldRoom f at s) where
       rw (le-leb (fieldSize f) (length (drop at s)) long, first) (ap (λ (t : Bool). eqb (getD s at 0) (f .tag) && t) width)
 
   -- its value
-  pub four-seen : f .width ≡ 4 → {x : ℕ} → x ≡ number (take 4 (drop (at + 3) s)) → x ≡ valueAt f (drop at s)
-  four-seen w e = e ∙ sym (ap (λ (l : List ℕ). number (take 4 l)) (drop-drop 3 at s)) ∙ ap (λ (n : ℕ). number (take n (drop 3 (drop at s)))) (sym w)
+  pub four-seen : f .width ≡ 4 → {x : ℕ} → x ≡ big 4 .read (slice (at + 3) 4 s) → x ≡ valueAt f (drop at s)
+  four-seen w e = e ∙ big-read 4 (at + 3) s ∙ sym (ap (λ (l : List ℕ). number (take 4 l)) (drop-drop 3 at s)) ∙ ap (λ (n : ℕ). number (take n (drop 3 (drop at s)))) (sym w)
 
   pub one-seen : (f .width ≡ 4 → ⊥) → {x : ℕ} → x ≡ getD s (at + 3) 0 → x ≡ valueAt f (drop at s)
   one-seen n e = ⊎-elim (λ w. e ∙ sym (first ∙ omega arith) ∙ ap (λ (n : ℕ). number (take n (drop 3 (drop at s)))) (sym w)) (λ w. absurd (n w)) (r .width)
@@ -54,20 +56,20 @@ module _ (f : Field) (s : List ℕ) (at : ℕ) (r : FieldRoom f at s) where
 
 -- a field whose header and value were seen
 pub field-seen : (f : Field) (bs : List ℕ) (h t : Bool) (v : ℕ) → h ≡ hasHeader f bs → v ≡ valueAt f bs → t ≡ (h && ltb v (f .limit)) → FieldParsed f bs t v
-field-seen f bs h t v eh ev et = record { stood = et ∙ (λ i. eh i && ltb (ev i) (f .limit)); value = λ _. sym ev }
+field-seen f bs h t v eh ev et = record { parses = et ∙ (λ i. eh i && ltb (ev i) (f .limit)); value = λ _. sym ev }
 
 -- what has a tag that is no field's
 pub none-seen : (t : ℕ) (bs : List ℕ) → fieldOf t ≡ noField → FieldParsed (fieldOf t) bs false 0
 none-seen t bs e =
     subst (λ (f : Field). FieldParsed f bs false 0) (sym e)
-    (record { stood = ⊎-elim (λ h. absurd (omega (arith, ltb-true (valueAt noField bs) 0 (and-r (hasHeader noField bs) _ h)))) (λ h. sym h) (either (fieldParses noField bs)); value = λ h. differs (sym h) })
+    (record { parses = ⊎-elim (λ h. absurd (omega (arith, ltb-true (valueAt noField bs) 0 (and-r (hasHeader noField bs) _ h)))) (λ h. sym h) (either (fieldParses noField bs)); value = λ h. differs (sym h) })
 
 -- a value of one byte is its low byte
 pub low-seen : (f : Field) (bs : List ℕ) (t : Bool) (v : ℕ) → f .limit ≤ 256 → FieldParsed f bs t v → FieldParsed f bs t (v % 256)
 low-seen f bs t v l h =
     record {
-      stood = h .stood;
-      value = λ e. let below : valueAt f bs < f .limit = ltb-true _ _ (and-r (hasHeader f bs) (ltb (valueAt f bs) (f .limit)) (sym (h .stood) ∙ e)) in h .value e ∙ omega (arith, h .value e, below);
+      parses = h .parses;
+      value = λ e. let below : valueAt f bs < f .limit = ltb-true _ _ (and-r (hasHeader f bs) (ltb (valueAt f bs) (f .limit)) (sym (h .parses) ∙ e)) in h .value e ∙ omega (arith, h .value e, below);
     }
 
 -- ---- fields at their places
@@ -99,7 +101,7 @@ fill-reads [] at s [] l h = sym (eq-eqb (length (drop at s)) 0 (length-drop at s
 fill-reads [] at s (x ∷ xs) l h = absurd (omega arith)
 fill-reads (f ∷ fs) at s [] l h = absurd h
 fill-reads (f ∷ fs) at s (x ∷ xs) l h =
-    all-first x xs ∙ (λ i. h .0 .stood i && (fill-reads fs (at + fieldSize f) s xs (omega arith) (h .1) ∙ ap (bodyParses fs) (sym (drop-drop (fieldSize f) at s))) i)
+    all-first x xs ∙ (λ i. h .0 .parses i && (fill-reads fs (at + fieldSize f) s xs (omega arith) (h .1) ∙ ap (bodyParses fs) (sym (drop-drop (fieldSize f) at s))) i)
 
 gathered-reads : (fs : List Field) (at : ℕ) (s : List ℕ) (xs : List (Bool × ℕ)) (p : List ℕ) → Reads fs at s xs → all xs ≡ true
     → fieldValues fs (drop at s) p ≡ puts fs xs p

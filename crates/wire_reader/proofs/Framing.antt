@@ -6,7 +6,9 @@ use mathlib.Core.List.{List, [], _∷_}
 use lib.ListN.{length, getD, take, drop, length-drop}
 use lib.Seq.{drop-drop}
 use Rattle.spec_base.specs.Number.{number}
+use Rattle.spec_base.specs.Layout.{slice, big}
 use Rattle.spec_base.proofs.Numbers.{number-two}
+use Rattle.spec_base.proofs.WordBytes.{read-two}
 use Rattle.spec_wire.specs.Frames.{frameSize, frames}
 
 -- the two bytes of a record's length
@@ -15,6 +17,12 @@ two p s l =
     ap (λ (t : List ℕ). number (take 2 t)) (drop-drop 1 p s)
     ∙ number-two (p + 1) s (omega arith)
     ∙ ap (λ (k : ℕ). getD s (p + 1) 0 * 256 + getD s k 0) (let e : p + 1 + 1 ≡ p + 2 = omega arith in e)
+
+-- the length as it is read
+pub length-read : (s : List ℕ) (p : ℕ) → p + 3 ≤ length s → {x : ℕ} → x ≡ big 2 .read (slice (p + 1) 2 s) → x ≡ getD s (p + 1) 0 * 256 + getD s (p + 2) 0
+length-read s p l e =
+    e ∙ read-two (p + 1) s (omega arith)
+    ∙ ap (λ (k : ℕ). getD s (p + 1) 0 * 256 + getD s k 0) (let q : p + 1 + 1 ≡ p + 2 = omega arith in q)
 
 -- how the code finds the end
 module _ (list : List ℕ) (at : ℕ) (h : at < length list) where

@@ -1,4 +1,4 @@
--- Document 01, "Step records": what the reader's parts tell of a field, and of a body.
+-- Document 01, "Step records": what the parser's parts say of a field and of a body.
 use Prim.Native.Nat.{ℕ, _+_, _≤_}
 use mathlib.Core.Path.{_≡_}
 use mathlib.Core.Bool.{Bool, true, cond}
@@ -13,16 +13,16 @@ use Rattle.wire_reader.specs.declared.body.Parsed.{Parsed}
 use Rattle.spec_wire.specs.StepRecord.{fieldSize}
 use Rattle.spec_wire.specs.Reader.{fieldParses, valueAt}
 
--- the bytes have room for the field at a place, and its value is one byte or four
+-- the bytes have room for the field at `at`, and its value is one byte or four
 pub record FieldRoom (f : Field) (at : ℕ) (bs : List ℕ) : Type 0 where
   pub room : at + fieldSize f ≤ length bs
   pub least : 1 ≤ f .width
   pub most : f .width ≤ 4
   pub width : (f .width ≡ 1) ⊎ (f .width ≡ 4)
 
--- t says whether the field stands at the front of the bytes, and r is its value where it does
+-- t says whether `bs` starts with the field, and r is its value if so
 pub record FieldParsed (f : Field) (bs : List ℕ) (t : Bool) (r : ℕ) : Type 0 where
-  pub stood : t ≡ fieldParses f bs
+  pub parses : t ≡ fieldParses f bs
   pub value : t ≡ true → valueAt f bs ≡ r
 
 -- what a body reads as, by what was parsed of it

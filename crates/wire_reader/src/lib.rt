@@ -1,13 +1,19 @@
-// Step records: the reader. specs/Reader.antt says what it gives for every bytes.
+// The parser of step records. spec_wire's Reader specifies the result for every input.
+// order: body, message_body, frames, lib
 pub mod body;
 pub mod frames;
 pub mod message_body;
 
 ghost use mathlib.Core.Path.{_≡_};
-ghost use Rattle.spec_wire.specs.Reader.{readBody};
+ghost use Rattle.spec_wire.specs.Reader.{readBody, readRecord};
 ghost use Rattle.wire_reader.specs.Parsing.{readingOf};
-ghost use Rattle.spec_wire.specs.Reader.{readRecord};
 use body::Parsed;
+use spec_wire::KIND_DELIVER;
+use spec_wire::KIND_FORWARD;
+use spec_wire::KIND_LOAD;
+use spec_wire::KIND_RAISE;
+use spec_wire::KIND_SEND;
+use spec_wire::KIND_STORE;
 use spec_wire::Reading;
 use spec_wire::Refusal;
 
@@ -16,11 +22,11 @@ fn read_body(kind: u8, body: &[u8]) -> Parsed
     ensures { λ r. ⌜ readingOf r ≡ readBody kind (now (body .entry)) ⌝ }
 {
     match kind {
-        0x10 => body::read_load(body),
-        0x11 => body::read_store(body),
-        0x12 => message_body::read_send(body),
-        0x13 => message_body::read_deliver(body),
-        0x14..=0x16 => body::read_claim(kind, body),
+        KIND_LOAD => body::read_load(body),
+        KIND_STORE => body::read_store(body),
+        KIND_SEND => message_body::read_send(body),
+        KIND_DELIVER => message_body::read_deliver(body),
+        KIND_RAISE..=KIND_FORWARD => body::read_claim(kind, body),
         _ => body::torn(),
     }
 }
@@ -37,15 +43,22 @@ fn reading_of(parsed: Parsed) -> Reading
     }
 }
 
+// The bytes as a record: what they read as, still in parts.
+pub fn parse(bytes: &[u8]) -> Parsed
+    ensures { λ r. ⌜ readingOf r ≡ readRecord (now (bytes .entry)) ⌝ }
+{
+    if bytes.len() < 3 {
+        return body::torn();
+    }
+    if base::numbers::u16_at(bytes, 1) as usize != bytes.len() - 3 {
+        return body::torn();
+    }
+    read_body(bytes[0], &bytes[3..])
+}
+
 // The step that the bytes are the record of.
 pub fn read(bytes: &[u8]) -> Reading
     ensures { λ r. ⌜ r ≡ readRecord (now (bytes .entry)) ⌝ }
 {
-    if bytes.len() < 3 {
-        return Reading::Refused(Refusal::Torn);
-    }
-    if base::numbers::number(&bytes[1..3]) as usize != bytes.len() - 3 {
-        return Reading::Refused(Refusal::Torn);
-    }
-    reading_of(read_body(bytes[0], &bytes[3..]))
+    reading_of(parse(bytes))
 }

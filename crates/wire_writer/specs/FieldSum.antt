@@ -1,4 +1,4 @@
--- Document 01, "Step records": what the parts of the writer for C tell of a step's numbers.
+-- Document 01, "Step records": how the writer for C validates an array.
 use Prim.Native.Nat.{ℕ, _+_}
 use mathlib.Core.List.{List, [], _∷_}
 use mathlib.Core.Bool.{Bool, _&&_}
@@ -6,7 +6,7 @@ use lib.Dec.{eqb, ltb}
 use Rattle.spec_wire.specs.declared.Field.{Field}
 use Rattle.spec_wire.specs.Kinds.{valueOf}
 
--- the fields' numbers are in bounds, and added to a number they make up a total
+-- every field is in bounds, and n plus the fields' values is `total`
 unfoldable pub fieldsSumTo : List Field → ℕ → ℕ → List ℕ → Bool
 fieldsSumTo [] n total p = eqb n total
 fieldsSumTo (f ∷ fs) n total p = ltb (valueOf f p) (f .limit) && fieldsSumTo fs (n + valueOf f p) total p

@@ -1,1 +1,2 @@
+pub mod KindTags
 pub mod FieldSum

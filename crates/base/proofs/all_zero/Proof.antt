@@ -1,4 +1,4 @@
--- `base::clear` meets its contract: after i turns the first i bytes have been tested.
+-- `base::all_zero` meets its contract: after i turns the first i bytes have been tested.
 use borrow.Author.Needs.{needs}
 use Prim.Native.Nat.{ℕ, _+_, _-_, _≤_}
 use native.Mathlib.Omega.{arith}

@@ -1,42 +1,36 @@
--- `judging::next` meets its contract: what was read decides.
-use mathlib.Core.Path.{refl}
-use Rattle.engine_step.proofs.StepOnBytes.{stepped}
+-- `engine_step::step_known_sound` meets its contract: what was parsed decides.
+use mathlib.Core.Path.{refl, ap}
+use mathlib.Core.Bool.{Bool, cond}
 use borrow.Author.Needs.{needs}
+use borrow.Author.Tests.{not-true, not-false}
+use Rattle.spec_wire.specs.declared.Refusal.the-variants.{Torn}
+use Rattle.spec_wire.specs.declared.Reading.the-variants.{Step as Read, Refused}
+use Rattle.engine_step.proofs.StepOnBytes.{stepped}
 use Rattle.engine_step.proofs.step_known_sound.Statement.{statement}
 use Rattle.engine_step.proofs.step_known_sound.Tie as tie
 
-read-requires : tie.Need-read-requires
-read-requires c κs = search needs
-
-enum-known-refusal : tie.Need-enum-known-refusal
-enum-known-refusal c = search needs
-
-enum-known-step : tie.Need-enum-known-step
-enum-known-step c = search needs
-
-apply-if-sound-requires : tie.Need-apply-if-sound-requires
-apply-if-sound-requires c κs = search needs
+parse-requires : tie.Need-parse-requires
+parse-requires c κs = search needs
 
 returns : tie.Need-returns
-returns c = let s = c .before .before .before .before .before .before in
-    stepped (s .args .rec .now) (s .args .bytes .now) (c .before .before .before .read .result) (c .before .before .before .read .ensures) _ (c .before .refusal .given .1) _ (s .args .rec .now) refl refl
+returns c =
+    let p = c .before .before .parse in
+    let s = c .before .before .before .before .before in
+    stepped (s .args .rec .now) (s .args .bytes .now) _ (p .ensures) (Refused Torn) (ap (λ (t : Bool). cond t (Read (p .result .step)) (Refused Torn)) (not-true (p .result .ok) (c .if1 .taken))) _ (s .args .rec .now) refl refl
+
+apply-requires : tie.Need-apply-requires
+apply-requires c κs = search needs
 
 same-length : tie.Need-same-length
 same-length c = search needs
 
 returns-2 : tie.Need-returns-2
-returns-2 c = let s = c .before .before .before .before .before .before .before .before .before .before in
-    let j = c .before .before .apply-if-sound in
-    stepped (s .args .rec .now) (s .args .bytes .now) (c .before .before .before .before .before .before .before .read .result) (c .before .before .before .before .before .before .before .read .ensures) _ (c .before .before .before .before .before .step .given .1) (j .result) (j .last .0) (j .ensures .0) (j .ensures .1)
+returns-2 c =
+    let way = c .before .before .before .before in
+    let p = way .before .before .parse in
+    let s = way .before .before .before .before .before in
+    let a = c .before .before .apply in
+    stepped (s .args .rec .now) (s .args .bytes .now) _ (p .ensures) (Read (p .result .step)) (ap (λ (t : Bool). cond t (Read (p .result .step)) (Refused Torn)) (not-false (p .result .ok) (way .if1 .left))) (a .result) (a .last .0) (a .ensures .0) (a .ensures .1)
 
 pub step-known-sound-spec : {M : Type 1} → statement M
-step-known-sound-spec =
-    tie.close
-    (tie.spec
-    read-requires
-    enum-known-refusal
-    enum-known-step
-    apply-if-sound-requires
-    returns
-    same-length
-    returns-2)
+step-known-sound-spec = tie.close (tie.spec parse-requires returns apply-requires same-length returns-2)

@@ -24,11 +24,11 @@ report-requires c κs = search needs
 array-share-prefix-out : tie.Need-array-share-prefix-out
 array-share-prefix-out c = placed-fits _ _ _ _ (c .report .ensures .0 .0) (c .report .ensures .0 .1)
 
-slice-aggregate-write-all : tie.Need-slice-aggregate-write-all
-slice-aggregate-write-all c = sym (length-take-le _ _ (placed-fits _ _ _ _ (c .before .report .ensures .0 .0) (c .before .report .ensures .0 .1)))
+slice-aggregate-print : tie.Need-slice-aggregate-print
+slice-aggregate-print c = sym (length-take-le _ _ (placed-fits _ _ _ _ (c .before .report .ensures .0 .0) (c .before .report .ensures .0 .1)))
 
-write-all-requires : tie.Need-write-all-requires
-write-all-requires c κs = search needs
+print-requires : tie.Need-print-requires
+print-requires c κs = search needs
 
 returns : tie.Need-returns
 returns c = search needs
@@ -43,6 +43,6 @@ main-spec =
     slice-aggregate-report
     report-requires
     array-share-prefix-out
-    slice-aggregate-write-all
-    write-all-requires
+    slice-aggregate-print
+    print-requires
     returns)

@@ -1,4 +1,4 @@
--- `report::put_steps` meets its contract. The invariant: the lines that are left, placed after those there are, make the whole.
+-- `rackrun_text::put_steps` meets its contract. The invariant: the lines that are left, placed after those there are, make the whole.
 use borrow.Author.Needs.{needs}
 use Prim.Native.Nat.{_-_}
 use native.Mathlib.Omega.{arith}

@@ -1,4 +1,4 @@
--- `open` meets its contract: each test that refuses does so by its line, and past both the sizes fit a byte and the record has room.
+-- `record_open::open` meets its contract: each test that refuses does so by its line, and past both the sizes fit a byte and the record has room.
 use native.Mathlib.Omega.{arith}
 use mathlib.Core.Path.{_≡_, sym, _∙_}
 use mathlib.Core.Bool.{true}

@@ -1,3 +1,4 @@
+-- `record_open::open_block` meets its contract: all figures and words become 0, then home gets its tokens.
 use native.Mathlib.Omega.{arith}
 use mathlib.Core.Path.{sym, ap, _∙_}
 use mathlib.Core.List.{List}
@@ -8,79 +9,61 @@ use Rattle.record_open.proofs.FreshBytes.{three-kept, empty-is, fresh-i
 use borrow.Author.Needs.{needs}
 use Rattle.record_open.proofs.open_block.Statement.{statement}
 use Rattle.record_open.proofs.open_block.Tie as tie
-use Rattle.record_open.proofs.open_block.Reads as reads
-use Rattle.record_open.proofs.open_block.Lts as lts
-use Rattle.record_open.proofs.zero_fill.Reads as clear-reads
+use Rattle.spec_rack.specs.RecordLayout.{claimsOffset, claimsSize, wordsOffset}
 
--- src/lib.rt:38:31
 add-words : tie.Need-add-words
 add-words c = search needs
 
--- src/lib.rt:38:17
 mul-words : tie.Need-mul-words
 mul-words c = search needs
 
--- src/lib.rt:39:16
 add-sets : tie.Need-add-sets
 add-sets c = search needs
 
--- src/lib.rt:40:18
 add-behind : tie.Need-add-behind
 add-behind c = search needs
 
--- src/lib.rt:41:5
 zero-fill-requires : tie.Need-zero-fill-requires
 zero-fill-requires c κs = search needs
 
--- src/lib.rt:42:5
 zero-fill-requires-2 : tie.Need-zero-fill-requires-2
 zero-fill-requires-2 c κs = search needs
 
--- src/lib.rt:43:5
 zero-fill-requires-3 : tie.Need-zero-fill-requires-3
 zero-fill-requires-3 c κs = search needs
 
--- src/lib.rt:44:16
 sub-rec : tie.Need-sub-rec
 sub-rec c = search needs
 
--- src/lib.rt:44:15
 cast-rec : tie.Need-cast-rec
 cast-rec c = search needs
 
--- src/lib.rt:44:5
 slice-write-rec : tie.Need-slice-write-rec
 slice-write-rec c = search needs
 
--- src/lib.rt:45:9
 add-rec : tie.Need-add-rec
 add-rec c = search needs
 
--- src/lib.rt:45:5
 slice-write-rec-2 : tie.Need-slice-write-rec-2
 slice-write-rec-2 c = simp length-set (omega (arith, c .before .before .zero-fill3 .kept .0, c .before .before .before .before .before .before .zero-fill2 .kept .0, c .before .before .before .before .before .before .before .before .before .before .zero-fill .kept .0))
 
--- src/lib.rt:46:9
 add-rec-2 : tie.Need-add-rec-2
 add-rec-2 c = search needs
 
--- src/lib.rt:46:5
 slice-write-rec-3 : tie.Need-slice-write-rec-3
 slice-write-rec-3 c = simp length-set (omega (arith, c .before .before .zero-fill3 .kept .0, c .before .before .before .before .before .before .zero-fill2 .kept .0, c .before .before .before .before .before .before .before .before .before .before .zero-fill .kept .0))
 
--- src/lib.rt:34:1
 same-length : tie.Need-same-length
 same-length c = let a = c .before .before .before .before .before .before .before .before .before .before .before .before .before .args in
     three-kept (c .before .before .zero-fill3 .last .0) (a .at) (a .at + 16) (a .at + 32) _ _ _ ∙ c .before .before .zero-fill3 .kept .0 ∙ c .before .before .before .before .before .before .zero-fill2 .kept .0 ∙ c .before .before .before .before .before .before .before .before .before .before .zero-fill .kept .0
 
--- src/lib.rt:34:1
 returns : tie.Need-returns
 returns c = let s = c .before .before .before .before .before .before .before .before .before .before .before .before .before in
     let n = s .args .boards in
     let p = s .args .at in
     ap (λ (r : List ℕ). set (set (set r p (s .args .tokens - 1)) (p + 16) 1) (p + 32) 1)
     (c .before .before .zero-fill3 .ensures
-    ∙ ap (modifyAt (p + 120) (32 * (n + 1)) (λ r. replicate (32 * (n + 1)) 0)) (c .before .before .before .before .before .before .zero-fill2 .ensures ∙ ap (modifyAt (p + 80) 34 (λ r. replicate 34 0)) (c .before .before .before .before .before .before .before .before .before .before .zero-fill .ensures))
+    ∙ ap (modifyAt (p + wordsOffset) (32 * (n + 1)) (λ r. replicate (32 * (n + 1)) 0)) (c .before .before .before .before .before .before .zero-fill2 .ensures ∙ ap (modifyAt (p + claimsOffset) claimsSize (λ r. replicate claimsSize 0)) (c .before .before .before .before .before .before .before .before .before .before .zero-fill .ensures))
     ∙ sym (empty-is n (omega (arith, s .pre .0)) p (s .args .rec .now) (s .pre .3)))
     ∙ sym (fresh-is n (omega (arith, s .pre .0)) p (s .args .rec .now) (s .pre .3) (λ k. c .before .before .before .before .before .before .before .before .before .before .before .before .slice-known .given k .fits) (s .args .tokens) (omega (arith, s .pre .2)))
 

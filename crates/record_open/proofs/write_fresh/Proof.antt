@@ -1,4 +1,4 @@
--- `write_fresh` meets its contract: at turn b the header and the first b blocks are written.
+-- `record_open::write_fresh` meets its contract: at turn b the header and the first b blocks are written.
 use Prim.Native.Nat.{_≤_, _-_}
 use native.Mathlib.Omega.{arith}
 use mathlib.Core.Path.{_≡_}

@@ -1,4 +1,4 @@
--- `clear` meets its contract: at turn i the first i of the bytes are 0.
+-- `record_open::zero_fill` meets its contract: at turn i the first i of the bytes are 0.
 use Prim.Native.Nat.{_≤_, _-_}
 use native.Mathlib.Omega.{arith}
 use mathlib.Core.Path.{_≡_, ap, _∙_}

@@ -1,3 +1,4 @@
+-- `record_soundness::tokens_total` meets its contract: one sum holds tokens and owners.
 use Prim.Native.Nat.{_+_, _*_}
 use mathlib.Core.Path.{ap}
 use lib.Dec.{eqb}

@@ -1,4 +1,4 @@
--- `access::load` meets its contract: its tests are those of the table, in order, and where all fail it gives the word.
+-- `step_access::load` meets its contract: its tests are those of the table, in order, and where all fail it gives the word.
 use mathlib.Core.Path.{refl, ap}
 use native.Mathlib.Omega.{arith}
 use Rattle.step_checks.proofs.CheckLaws.{load-off-rack, load-home, load-no-token, load-no-data, load-pass}

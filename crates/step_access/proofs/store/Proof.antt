@@ -1,4 +1,4 @@
--- `access::store` meets its contract: the table has a known component, block and word.
+-- `step_access::store` meets its contract: the table has a known component, block and word.
 use native.Mathlib.Omega.{arith}
 use mathlib.Core.Path.{refl}
 use borrow.Author.Needs.{needs}

@@ -1,4 +1,4 @@
--- `access::store_check` meets its contract: its tests are those of the table, in order.
+-- `step_access::store_check` meets its contract: its tests are those of the table, in order.
 use mathlib.Core.Path.{refl, sym, _∙_}
 use Rattle.spec_rack.proofs.GetPut.{tokens-is}
 use Rattle.step_checks.proofs.CheckLaws.{store-off-rack, store-home, store-short, store-pass}

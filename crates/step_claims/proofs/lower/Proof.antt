@@ -1,4 +1,4 @@
--- `claiming::lower` meets its contract: the claims have a place of their own.
+-- `step_claims::lower` meets its contract: the claims have a place of their own.
 use mathlib.Core.Path.{refl}
 use mathlib.Core.List.{List}
 use Prim.Native.Nat.{ℕ}

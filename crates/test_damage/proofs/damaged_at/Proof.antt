@@ -1,4 +1,4 @@
--- `damage::damaged_at` is safe, and counts one at most.
+-- `test_damage::damaged_at` is safe, and counts one at most.
 use Prim.Native.Nat.{_≤_}
 use native.Mathlib.Omega.{arith}
 use mathlib.Core.Bool.{Bool, true, false}

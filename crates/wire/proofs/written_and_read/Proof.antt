@@ -14,9 +14,8 @@ use Rattle.spec_wire.specs.Reader.{readRecord}
 use Rattle.spec_base.specs.Placing.{place}
 use Rattle.spec_wire.specs.Writer.{written, placed}
 use Rattle.spec_base.proofs.Placing.{length-place}
-use Rattle.wire_writer.proofs.PlacedRecord.{written-room, written-short, placed-room}
+use Rattle.wire_writer.proofs.PlacedRecord.{written-room, written-short, placed-room, refused-count, written-count}
 use Rattle.spec_wire.proofs.MachineSteps.{step-fits}
-use Rattle.wire_writer.proofs.PlacedRecord.{refused-count, written-count}
 use Rattle.spec_wire.proofs.RecordSizes.{record-length}
 use Rattle.spec_wire.proofs.RoundTrip.{read-written}
 use borrow.Author.Needs.{needs}

@@ -1,4 +1,4 @@
--- `reader::read_body` meets its contract: each arm reads the body of its kind, and anything else is torn.
+-- `wire_reader::read_body` meets its contract: each arm reads the body of its kind, and anything else is torn.
 use mathlib.Core.Path.{sym, ap, _∙_}
 use Prim.Native.Nat.{ℕ}
 use native.Mathlib.Omega.{arith}

@@ -1,4 +1,4 @@
--- `reader::reading` meets its contract: a branch for each side of the definition.
+-- `wire_reader::reading_of` meets its contract: a branch for each side of the definition.
 use mathlib.Core.Path.{sym, ap}
 use mathlib.Core.Bool.{Bool, cond}
 use Rattle.spec_wire.specs.declared.Refusal.the-variants.{Torn}

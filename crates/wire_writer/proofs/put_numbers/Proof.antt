@@ -1,4 +1,4 @@
--- `writer::put_numbers` meets its contract: the fields of the kind are those that its tags name.
+-- `wire_writer::put_numbers` meets its contract: the fields of the kind are those that its tags name.
 use mathlib.Core.Path.{sym}
 use native.Mathlib.Omega.{arith}
 use lib.Seq.{length-take-le}

@@ -1,4 +1,4 @@
--- `writer::put_record` meets its contract: the kind, the length and the fields are placed one after the other.
+-- `wire_writer::put_record` meets its contract: the kind, the length and the fields are placed one after the other.
 use Rattle.spec_wire.specs.declared.Refusal.the-variants.{ShortBuffer}
 use Rattle.spec_wire.specs.declared.Written.the-variants.{Count, Refused}
 use Rattle.spec_base.specs.Placing.{place}

@@ -1,4 +1,4 @@
--- `change::lower_at` meets its contract: after i turns the board has left the first i barring sets; then the waiting set.
+-- `arbiter::change::lower_at` meets its contract: after i turns the board has left the first i barring sets; then the waiting set.
 use Rattle.arbiter.proofs.ClaimsChange.{Lowering, lower-none, lower-more, lower-is}
 use mathlib.Core.Path.{_≡_, subst}
 use Prim.Native.Nat.{ℕ, _-_, _≤_}
@@ -26,14 +26,14 @@ mul-place c = search needs
 add-place-2 : tie.Need-add-place-2 Inv-loop μ-loop
 add-place-2 c = search needs
 
-read-set-requires : tie.Need-read-set-requires Inv-loop μ-loop
-read-set-requires c κs = search needs
+u16-at-requires : tie.Need-u16-at-requires Inv-loop μ-loop
+u16-at-requires c κs = search needs
 
 remove-requires : tie.Need-remove-requires Inv-loop μ-loop
 remove-requires c κs = search needs
 
-write-set-requires : tie.Need-write-set-requires Inv-loop μ-loop
-write-set-requires c κs = search needs
+put-u16-requires : tie.Need-put-u16-requires Inv-loop μ-loop
+put-u16-requires c κs = search needs
 
 add-i : tie.Need-add-i Inv-loop μ-loop
 add-i c = search needs
@@ -46,20 +46,20 @@ loop-again c = let s = c .before .before .before .before .before .before .before
     let l = c .before .before .before .before .before .before .before .before .loop in (
       search needs,
       lower-more (s .args .boards) (s .args .at) (s .pre .3) (s .args .rec .now) (λ k. c .before .before .before .before .before .before .before .before .before .slice-known .given k .fits) (s .pre .0) (s .pre .4) (s .args .board) (l .i) _ _ _ _ (omega arith) (l .inv .1)
-          (c .before .before .before .before .before .read-set .ensures) (c .before .before .before .before .remove .ensures) (search needs) (c .before .before .write-set .ensures),
+          (c .before .before .before .before .before .u16-at .ensures) (c .before .before .before .before .remove .ensures) (search needs) (c .before .before .put-u16 .ensures),
     )
 
 add-waiting : tie.Need-add-waiting Inv-loop μ-loop
 add-waiting c = search needs
 
-read-set-requires-2 : tie.Need-read-set-requires-2 Inv-loop μ-loop
-read-set-requires-2 c κs = search needs
+u16-at-requires-2 : tie.Need-u16-at-requires-2 Inv-loop μ-loop
+u16-at-requires-2 c κs = search needs
 
 remove-requires-2 : tie.Need-remove-requires-2 Inv-loop μ-loop
 remove-requires-2 c κs = search needs
 
-write-set-requires-2 : tie.Need-write-set-requires-2 Inv-loop μ-loop
-write-set-requires-2 c κs = search needs
+put-u16-requires-2 : tie.Need-put-u16-requires-2 Inv-loop μ-loop
+put-u16-requires-2 c κs = search needs
 
 remaining-requires : tie.Need-remaining-requires Inv-loop μ-loop
 remaining-requires c κs = search needs
@@ -70,8 +70,8 @@ mul-own c = search needs
 add-own : tie.Need-add-own Inv-loop μ-loop
 add-own c = search needs
 
-write-set-requires-3 : tie.Need-write-set-requires-3 Inv-loop μ-loop
-write-set-requires-3 c κs = search needs
+put-u16-requires-3 : tie.Need-put-u16-requires-3 Inv-loop μ-loop
+put-u16-requires-3 c κs = search needs
 
 same-length : tie.Need-same-length Inv-loop μ-loop
 same-length c = search needs
@@ -89,7 +89,7 @@ returns c =
     let all : l .loop .i ≡ s .args .boards = omega arith in
     lower-is (s .args .boards) (s .args .at) (s .pre .3) (s .args .rec .now) (λ k. known .slice-known .given k .fits) (s .pre .0) (s .pre .4) (s .args .board) _ _ _ _ _ _ (s .pre .1) (s .pre .2)
     (subst (λ (k : ℕ). Lowering (s .args .boards) (s .args .at) (s .args .rec .now) (s .args .board) k (l .loop .rec)) all (l .loop .inv .1))
-    (read .read-set2 .ensures) (removed .remove2 .ensures) (search needs) (rest .remaining .ensures) (stored .write-set2 .ensures) (own .write-set3 .ensures)
+    (read .u16-at2 .ensures) (removed .remove2 .ensures) (search needs) (rest .remaining .ensures) (stored .put-u162 .ensures) (own .put-u163 .ensures)
 
 pub lower-at-spec : {M : Type 1} → statement M
 lower-at-spec =
@@ -101,19 +101,19 @@ lower-at-spec =
     add-place
     mul-place
     add-place-2
-    read-set-requires
+    u16-at-requires
     remove-requires
-    write-set-requires
+    put-u16-requires
     add-i
     loop-less
     loop-again
     add-waiting
-    read-set-requires-2
+    u16-at-requires-2
     remove-requires-2
-    write-set-requires-2
+    put-u16-requires-2
     remaining-requires
     mul-own
     add-own
-    write-set-requires-3
+    put-u16-requires-3
     same-length
     returns)

@@ -1,4 +1,4 @@
--- `claims::active_at` meets its contract: the lowest-numbered waiting board.
+-- `arbiter::claims::active_at` meets its contract: the lowest-numbered waiting board.
 use Rattle.spec_rack.specs.Boards.{lowest}
 use mathlib.Core.Path.{ap, _∙_}
 use borrow.Author.Needs.{needs}

@@ -1,4 +1,4 @@
--- `claims::lower_check` meets its contract: its test is that of the table.
+-- `arbiter::claims::lower_check` meets its contract: its test is that of the table.
 use Rattle.spec_rack.proofs.Claims.{lower-pass, lower-refused}
 use Rattle.spec_rack.specs.Boards.{member}
 use mathlib.Core.Path.{sym, ap, _∙_}

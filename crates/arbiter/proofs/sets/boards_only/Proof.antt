@@ -1,23 +1,28 @@
--- `arbiter::sets::boards_only` meets its contract: bit 0 is clear, and nothing stands above bit n.
-use Rattle.arbiter.proofs.SetBits.{odd-boards, shr-boards}
+-- `arbiter::sets::boards_only` meets its contract: a set of boards lies within the set of all boards.
+use native.Mathlib.Omega.{arith}
+use Prim.Native.Nat.{ℕ, _-_}
+use mathlib.Core.Path.{ap, _∙_}
+use Rattle.spec_rack.specs.Boards.{subset}
+use Rattle.arbiter.proofs.SetBits.{all-shl, all-lt, all-boards}
 use borrow.Author.Needs.{needs}
 use Rattle.arbiter.proofs.sets.boards_only.Statement.{statement}
 use Rattle.arbiter.proofs.sets.boards_only.Tie as tie
 
+shl-all : tie.Need-shl-all
+shl-all c = search needs
+
+sub-all : tie.Need-sub-all
+sub-all c = omega (arith, all-shl (c .args .n) (c .pre), all-lt (c .args .n) (c .pre) .0)
+
+cast-subset : tie.Need-cast-subset
+cast-subset c = record { fits = omega (arith, all-shl (c .args .n) (c .pre), all-lt (c .args .n) (c .pre) .1) }
+
+subset-requires : tie.Need-subset-requires
+subset-requires c κs = search needs
+
 returns : tie.Need-returns
-returns c = odd-boards (c .before .args .n) (c .before .args .s) (c .if1 .taken)
-
-add-result : tie.Need-add-result
-add-result c = search needs
-
-cast-result : tie.Need-cast-result
-cast-result c = search needs
-
-shr-result : tie.Need-shr-result
-shr-result c = search needs
-
-returns-2 : tie.Need-returns-2
-returns-2 c = shr-boards (c .before .args .n) (c .before .args .s) (search needs) (c .if1 .left)
+returns c = let s = c .before in
+    c .subset .ensures ∙ ap (λ (x : ℕ). subset (s .args .s) (x - 2)) (all-shl (s .args .n) (s .pre)) ∙ all-boards (s .args .n) (s .args .s) (s .pre) (omega arith)
 
 pub boards-only-spec : {M : Type 1} → statement M
-boards-only-spec = tie.close (tie.spec returns add-result cast-result shr-result returns-2)
+boards-only-spec = tie.close (tie.spec shl-all sub-all cast-subset subset-requires returns)

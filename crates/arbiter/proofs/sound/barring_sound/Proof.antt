@@ -1,21 +1,29 @@
--- `claims_sound::bars` meets its contract: the empty set lies within every set.
-use Rattle.arbiter.proofs.ClaimsDecision.{bars-waiting, bars-idle}
+-- `arbiter::sound::barring_sound` meets its contract: the empty set lies within every set, and a waiting board has no other.
+use Rattle.arbiter.proofs.ClaimsDecision.{bars-none, bars-waiting, bars-idle}
 use mathlib.Core.Path.{sym, _∙_}
 use borrow.Author.Needs.{needs}
+use borrow.Author.Tests.{ne-eqb}
 use Rattle.arbiter.proofs.sound.barring_sound.Statement.{statement}
 use Rattle.arbiter.proofs.sound.barring_sound.Tie as tie
+
+returns : tie.Need-returns
+returns c = let a = c .before .args in sym (bars-none (a .waiting) (a .board) (a .barring) (c .if1 .taken))
 
 member-requires : tie.Need-member-requires
 member-requires c κs = search needs
 
-returns : tie.Need-returns
-returns c = sym (bars-waiting _ _ _ (sym (c .before .member .ensures) ∙ c .if1 .taken))
+returns-2 : tie.Need-returns-2
+returns-2 c =
+    let a = c .before .before .before .args in
+    sym (bars-waiting (a .waiting) (a .board) (a .barring) (sym (c .before .member .ensures) ∙ c .if2 .taken) ∙ ne-eqb (a .barring) 0 (c .before .before .if1 .left))
 
 subset-requires : tie.Need-subset-requires
 subset-requires c κs = search needs
 
-returns-2 : tie.Need-returns-2
-returns-2 c = c .subset .ensures ∙ sym (bars-idle _ _ _ (sym (c .before .before .member .ensures) ∙ c .before .if1 .left))
+returns-3 : tie.Need-returns-3
+returns-3 c =
+    let a = c .before .before .before .before .args in
+    c .subset .ensures ∙ sym (bars-idle (a .waiting) (a .board) (a .barring) (sym (c .before .before .member .ensures) ∙ c .before .if2 .left))
 
 pub barring-sound-spec : {M : Type 1} → statement M
-barring-sound-spec = tie.close (tie.spec member-requires returns subset-requires returns-2)
+barring-sound-spec = tie.close (tie.spec returns member-requires returns-2 subset-requires returns-3)

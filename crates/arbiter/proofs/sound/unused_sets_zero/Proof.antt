@@ -1,3 +1,4 @@
+-- `arbiter::sound::unused_sets_zero` meets its contract: place 0 and the places above the last board are all that the layout asks of them.
 use mathlib.Core.Path.{sym, _∙_}
 use mathlib.Core.Bool.{_&&_}
 use Rattle.arbiter.proofs.SetBytes.{claims-formed}

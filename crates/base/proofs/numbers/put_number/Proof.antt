@@ -1,4 +1,4 @@
--- `numbers::put_number` meets its contract: what is left of the number, before the bytes that are stored, makes it.
+-- `base::numbers::put_number` meets its contract: what is left of the number, before the bytes that are stored, makes it.
 use mathlib.Core.Path.{_≡_, refl, _∙_}
 use Prim.Native.Nat.{_≤_, _-_}
 use native.Mathlib.Omega.{arith}

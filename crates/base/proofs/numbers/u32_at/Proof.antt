@@ -1,5 +1,5 @@
--- `numbers::number_at` meets its contract: the number that four bytes make.
-use Rattle.spec_base.proofs.Numbers.{number-four}
+-- `base::numbers::u32_at` meets its contract: the number that four bytes make.
+use Rattle.spec_base.proofs.WordBytes.{read-four}
 use Prim.Native.Nat.{_+_, _*_}
 use mathlib.Core.Path.{sym, _∙_}
 use borrow.Author.Needs.{needs}
@@ -63,7 +63,7 @@ returns c = let s = c .before .before .before .before .before .before .before .b
     let b = c .before .before .before .before .wide2 .ensures .0 in
     let d = c .before .before .wide3 .ensures .0 in
     let e = c .wide4 .ensures .0 in
-    (λ i. a i * 16777216 + b i * 65536 + d i * 256 + e i) ∙ sym (number-four (s .args .at) (s .args .bytes .now) (s .pre))
+    (λ i. a i * 16777216 + b i * 65536 + d i * 256 + e i) ∙ sym (read-four (s .args .at) (s .args .s .now) (s .pre))
 
 pub u32-at-spec : {M : Type 1} → statement M
 u32-at-spec =

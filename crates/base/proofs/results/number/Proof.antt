@@ -1,4 +1,4 @@
--- `refusals::number` meets its contract: each arm knows its refusal.
+-- `base::results::number` meets its contract: each arm knows its refusal.
 use mathlib.Core.Path.{sym, ap}
 use Rattle.spec_wire.specs.Refusals.{number}
 use borrow.Author.Needs.{needs}

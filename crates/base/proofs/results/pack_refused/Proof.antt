@@ -1,4 +1,4 @@
--- `refusals::pack_refused` meets its contract: no number of the table reaches into the kind.
+-- `base::results::pack_refused` meets its contract: no number of the table reaches into the kind.
 use native.Mathlib.Omega.{arith}
 use Rattle.spec_wire.proofs.RefusalTable.{number-known}
 use borrow.Author.Needs.{needs}

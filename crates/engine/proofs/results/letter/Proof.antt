@@ -1,4 +1,4 @@
--- `packing::letter` meets its contract: each arm knows its letter.
+-- `engine::results::letter` meets its contract: each arm knows its letter.
 use mathlib.Core.Path.{sym, ap}
 use Rattle.spec_rack.specs.Results.{letterNumber}
 use borrow.Author.Needs.{needs}

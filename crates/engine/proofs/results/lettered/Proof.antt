@@ -1,4 +1,4 @@
--- `packing::lettered` meets its contract: each arm knows what it was given.
+-- `engine::results::lettered` meets its contract: each arm knows what it was given.
 use Rattle.spec_rack.specs.Results.{packedLetter}
 use mathlib.Core.Path.{sym, ap, _∙_}
 use borrow.Author.Needs.{needs}

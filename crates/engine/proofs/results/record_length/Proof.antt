@@ -1,7 +1,8 @@
--- `packing::record_length` meets its contract: the test of the count of blocks.
+-- `engine::results::record_length` meets its contract: the test of the count of blocks.
 use Rattle.engine.proofs.RecordLengths.{length-none, length-many, length-given}
 use native.Mathlib.Omega.{arith}
-use mathlib.Core.Path.{_∙_}
+use mathlib.Core.Path.{ap, _∙_}
+use Rattle.spec_wire.specs.Results.{done}
 use borrow.Author.Needs.{needs}
 use Rattle.engine.proofs.results.record_length.Statement.{statement}
 use Rattle.engine.proofs.results.record_length.Tie as tie
@@ -18,17 +19,16 @@ pack-refused-requires-2 c κs = search needs
 returns-2 : tie.Need-returns-2
 returns-2 c = c .pack-refused2 .ensures ∙ length-many (c .before .before .before .args .blocks) (c .before .if2 .taken)
 
-mul-pack-done : tie.Need-mul-pack-done
-mul-pack-done c = search needs
-
-add-pack-done : tie.Need-add-pack-done
-add-pack-done c = search needs
+record-size-requires : tie.Need-record-size-requires
+record-size-requires c κs = search needs
 
 pack-done-requires : tie.Need-pack-done-requires
 pack-done-requires c κs = search needs
 
 returns-3 : tie.Need-returns-3
-returns-3 c = c .pack-done .ensures ∙ length-given (c .before .before .before .args .blocks) (omega arith) (omega arith)
+returns-3 c =
+    let s = c .before .before .before .before in
+    c .pack-done .ensures ∙ ap done (c .before .record-size .ensures) ∙ length-given (s .args .blocks) (omega arith) (omega arith)
 
 pub record-length-spec : {M : Type 1} → statement M
 record-length-spec =
@@ -38,7 +38,6 @@ record-length-spec =
     returns
     pack-refused-requires-2
     returns-2
-    mul-pack-done
-    add-pack-done
+    record-size-requires
     pack-done-requires
     returns-3)

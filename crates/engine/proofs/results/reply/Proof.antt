@@ -1,4 +1,4 @@
--- `packing::reply` meets its contract: each arm knows its reply.
+-- `engine::results::reply` meets its contract: each arm knows its reply.
 use Rattle.spec_rack.specs.declared.Reply.the-variants.{Accepted}
 use Rattle.spec_rack.specs.Results.{packedReply}
 use mathlib.Core.Path.{sym, ap, _∙_}

@@ -1,10 +1,8 @@
--- `running::run` meets its contract. The invariant: what is left of the list, given to what there is by now, makes what the whole makes; and soundness is as it was.
-use mathlib.Core.Path.{refl}
-use Rattle.spec_rack.specs.Results.{packedReply}
+-- `engine::run::run` meets its contract. The invariant: what is left of the list, given to what there is by now, makes what the whole makes; and soundness is as it was.
+use mathlib.Core.Path.{refl, _≡_, sym, ap, _∙_}
 use native.Mathlib.Omega.{arith}
 use lib.ListN.{length, getD}
 use Prim.Native.Nat.{ℕ, _-_, _<_}
-use mathlib.Core.Path.{_≡_, sym, ap, _∙_}
 use Rattle.spec_rack.specs.Soundness.{soundBytes}
 use Rattle.spec_rack.proofs.ByteLists.{sound-kept}
 use Rattle.engine.proofs.RunLaws.{Going, going-start, going-more, going-end, ended, goes}
@@ -35,28 +33,27 @@ frame-end-within-requires c κs = let s = c .before .before .before .before .bef
     let l = c .before .before .loop in
     goes (s .args .rec .now) (s .args .list .now) (s .args .at .now) (s .args .replies .now) (l .rec) (l .replies) (l .place) (l .made) (l .inv .0) (c .before .both .result) (c .before .both .ensures) (c .if1 .taken) .1
 
-sub-next : tie.Need-sub-step-known-sound Inv-loop μ-loop
-sub-next c = search needs
+sub-give : tie.Need-sub-step-result Inv-loop μ-loop
+sub-give c = search needs
 
-part-next-start : tie.Need-part-step-known-sound-start Inv-loop μ-loop
-part-next-start c = search needs
+part-give-start : tie.Need-part-step-result-start Inv-loop μ-loop
+part-give-start c = search needs
 
-part-next-end : tie.Need-part-step-known-sound-end Inv-loop μ-loop
-part-next-end c = search needs
+part-give-end : tie.Need-part-step-result-end Inv-loop μ-loop
+part-give-end c = search needs
 
-step-known-sound-requires : tie.Need-step-known-sound-requires Inv-loop μ-loop
-step-known-sound-requires c κs = search needs
-
-reply-requires : tie.Need-reply-requires Inv-loop μ-loop
-reply-requires c κs = search needs
+step-result-requires : tie.Need-step-result-requires Inv-loop μ-loop
+step-result-requires c κs = search needs
 
 mul-replies : tie.Need-mul-replies Inv-loop μ-loop
 mul-replies c = search needs
 
 slice-write-replies : tie.Need-slice-write-replies Inv-loop μ-loop
-slice-write-replies c = let s = c .before .before .before .before .before .before .before .before .before .before .before .before .before .before .before .before in
-    let l = c .before .before .before .before .before .before .before .before .before .loop in
-    let q = goes (s .args .rec .now) (s .args .list .now) (s .args .at .now) (s .args .replies .now) (l .rec) (l .replies) (l .place) (l .made) (l .inv .0) (c .before .before .before .before .before .before .before .before .both .result) (c .before .before .before .before .before .before .before .before .both .ensures) (c .before .before .before .before .before .before .before .if1 .taken) .0 in
+slice-write-replies c =
+    let way = c .before .before .before .before .before .before in
+    let l = way .before .before .loop in
+    let s = way .before .before .before .before .before .before .before .before .before in
+    let q = goes (s .args .rec .now) (s .args .list .now) (s .args .at .now) (s .args .replies .now) (l .rec) (l .replies) (l .place) (l .made) (l .inv .0) (way .before .both .result) (way .before .both .ensures) (way .if1 .taken) .0 in
     omega (arith, l .inv .0 .same)
 
 add-made : tie.Need-add-made Inv-loop μ-loop
@@ -66,15 +63,19 @@ loop-less : tie.Need-loop-less Inv-loop μ-loop
 loop-less c = search needs
 
 loop-again : tie.Need-loop-again Inv-loop μ-loop
-loop-again c = let s = c .before .before .before .before .before .before .before .before .before .before .before .before .before .before .before .before in
-    let l = c .before .before .before .before .before .before .before .before .before .loop in
-    let n = c .before .before .before .step-known-sound in
-    let q = goes (s .args .rec .now) (s .args .list .now) (s .args .at .now) (s .args .replies .now) (l .rec) (l .replies) (l .place) (l .made) (l .inv .0) (c .before .before .before .before .before .before .before .before .both .result) (c .before .before .before .before .before .before .before .before .both .ensures) (c .before .before .before .before .before .before .before .if1 .taken) in (
+loop-again c =
+    let given = c .before .before in
+    let cuts = given .before .before .before in
+    let way = cuts .before in
+    let l = way .before .before .loop in
+    let s = way .before .before .before .before .before .before .before .before .before in
+    let n = given .step-result in
+    let q = goes (s .args .rec .now) (s .args .list .now) (s .args .at .now) (s .args .replies .now) (l .rec) (l .replies) (l .place) (l .made) (l .inv .0) (way .before .both .result) (way .before .both .ensures) (way .if1 .taken) in (
       going-more (s .args .rec .now) (s .args .list .now) (s .args .at .now) (s .args .replies .now) (l .rec) (l .replies) (l .place) (l .made) (l .inv .0) (q .0) (q .1)
-          (c .before .before .before .before .before .before .frame-end-within .result) (c .before .before .before .before .before .before .frame-end-within .ensures .0) (c .reply .result) (n .last .0) (c .reply .ensures ∙ ap packedReply (n .ensures .0)) (n .ensures .1),
+          (cuts .frame-end-within .result) (cuts .frame-end-within .ensures .0) (n .result) (n .last .0) (n .ensures .0) (n .ensures .1),
       (
         l .inv .1 .0 ∙ sym (ap soundBytes (n .ensures .1) ∙ sound-kept (l .rec) (l .inv .1 .1 .0) _),
-        (λ k. c .before .slice-known3 .given k .fits, n .kept .0 ∙ l .inv .1 .1 .1),
+        (λ k. c .slice-known3 .given k .fits, n .kept .0 ∙ l .inv .1 .1 .1),
       ),
     )
 
@@ -99,11 +100,10 @@ run-spec =
     loop-holds
     both-requires
     frame-end-within-requires
-    sub-next
-    part-next-start
-    part-next-end
-    step-known-sound-requires
-    reply-requires
+    sub-give
+    part-give-start
+    part-give-end
+    step-result-requires
     mul-replies
     slice-write-replies
     add-made

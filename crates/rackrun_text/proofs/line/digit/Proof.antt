@@ -1,4 +1,4 @@
--- `lines::digit` meets its contract: each arm is one of the two cases.
+-- `rackrun_text::line::digit` meets its contract: each arm is one of the two cases.
 use mathlib.Core.Path.{refl}
 use borrow.Author.Tests.{lt-ltb, le-ltb}
 use borrow.Author.Needs.{needs}

@@ -1,4 +1,4 @@
--- `lines::put_digits` meets its contract: what is left to place, placed before what there is, makes the whole.
+-- `rackrun_text::line::put_digits` meets its contract: what is left to place, placed before what there is, makes the whole.
 use Prim.Native.Nat.{_+_}
 use native.Mathlib.Omega.{arith}
 use native.Mathlib.Nat.{mod-lt}

@@ -1,4 +1,4 @@
--- `lines::put_line` meets its contract: the index and a space, a letter, and digits and a newline are placed one after the other.
+-- `rackrun_text::line::put_line` meets its contract: the index and a space, a letter, and digits and a newline are placed one after the other.
 use native.Mathlib.Omega.{arith}
 use mathlib.Core.Path.{_∙_}
 use lib.ListN.{length-set}

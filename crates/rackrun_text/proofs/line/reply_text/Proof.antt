@@ -1,4 +1,4 @@
--- `lines::told` meets its contract: each arm knows its reply.
+-- `rackrun_text::line::reply_text` meets its contract: each arm knows its reply.
 use mathlib.Core.Path.{ap, _∙_}
 use native.Mathlib.Omega.{arith}
 use Rattle.spec_rack.specs.declared.Reply.the-variants.{Accepted}

@@ -1,4 +1,4 @@
--- `lines::width` meets its contract: each digit but the last is one more tenth.
+-- `rackrun_text::line::width` meets its contract: each digit but the last is one more tenth.
 use native.Mathlib.Omega.{arith}
 use Prim.Native.Nat.{_/_}
 use Rattle.rackrun_text.proofs.LineLaws.{decimal-first, decimal-last, decimal-more}

@@ -1,4 +1,4 @@
--- `mesh::append` meets its contract: the message behind the others, and the count.
+-- `record::mesh::append` meets its contract: the message behind the others, and the count.
 use lib.ListN.{getD, set}
 use mathlib.Core.List.{List}
 use Prim.Native.Nat.{ℕ, _+_}

@@ -1,4 +1,4 @@
--- `mesh::move_up` meets its contract. The invariant: the first i bytes are those from 40 places further on.
+-- `record::mesh::close_gap` meets its contract. The invariant: the first i bytes are those from 40 places further on.
 use borrow.Author.Needs.{needs}
 use Rattle.record.proofs.FieldAccess.{moved, moved-none, moved-more}
 use mathlib.Core.Path.{_≡_, refl, ap, _∙_}
@@ -8,6 +8,7 @@ use Prim.Native.Nat.{ℕ, _≤_, _-_, _+_}
 use native.Mathlib.Omega.{arith}
 use Rattle.record.proofs.mesh.close_gap.Statement.{statement}
 use Rattle.record.proofs.mesh.close_gap.Tie as tie
+use Rattle.spec_rack.specs.RecordLayout.{messageSize}
 
 abbrev Inv-loop : tie.InvT-loop
 Inv-loop s₀ at count i₀ s i = (i ≤ count) × ((length s ≡ length s₀) × (s ≡ moved s₀ at i))
@@ -45,7 +46,7 @@ loop-again c = let a = c .before .before .before .args in
       search needs,
       (
         length-set (l .s) (a .at + l .i) _ ∙ l .inv .1 .0,
-        ap (λ (t : List ℕ). set t (a .at + l .i) (getD t (a .at + 40 + l .i) 0)) (l .inv .1 .1) ∙ moved-more (a .s .now) (a .at) (l .i) (search needs),
+        ap (λ (t : List ℕ). set t (a .at + l .i) (getD t (a .at + messageSize + l .i) 0)) (l .inv .1 .1) ∙ moved-more (a .s .now) (a .at) (l .i) (search needs),
       ),
     )
 

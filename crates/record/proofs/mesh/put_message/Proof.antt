@@ -1,3 +1,4 @@
+-- `record::mesh::put_message` meets its contract: its header byte by byte, then its words.
 use lib.ListN.{length, set, length-set}
 use mathlib.Core.List.{List}
 use native.Mathlib.Omega.{arith}

@@ -1,4 +1,4 @@
--- `mesh::remove` meets its contract: the messages behind move up, and the count.
+-- `record::mesh::remove` meets its contract: the messages behind move up, and the count.
 use lib.ListN.{getD, set}
 use mathlib.Core.List.{List}
 use Prim.Native.Nat.{ℕ, _-_}

@@ -1,4 +1,4 @@
--- `record::tokens::put_marks` meets its contract: three bytes, each in its place.
+-- `record::tokens::put_token_state` meets its contract: three bytes, each in its place.
 use Rattle.record.proofs.FieldWrites.{tokens-write}
 use lib.ListN.{length-set}
 use native.Mathlib.Omega.{arith}

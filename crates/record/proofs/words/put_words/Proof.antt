@@ -30,8 +30,8 @@ mul-value c = search needs
 array-read-value : tie.Need-array-read-value Inv-loop μ-loop
 array-read-value c = search needs
 
-put-word-requires : tie.Need-put-word-requires Inv-loop μ-loop
-put-word-requires c κs = search needs
+put-u32-requires : tie.Need-put-u32-requires Inv-loop μ-loop
+put-u32-requires c κs = search needs
 
 add-i : tie.Need-add-i Inv-loop μ-loop
 add-i c = search needs
@@ -45,8 +45,8 @@ loop-again c = let s = c .before .before .before .before .before .before .before
     let e : length (s .args .t3) ≡ 8 = search needs in (
       search needs,
       (
-        c .before .before .put-word .kept .0 ∙ l .inv .1 .0,
-        c .before .before .put-word .ensures ∙ ap (modifyAt (s .args .at + 4 * l .i) 4 (big 4 .write (getD (s .args .t3) (l .i) 0))) (l .inv .1 .1)
+        c .before .before .put-u32 .kept .0 ∙ l .inv .1 .0,
+        c .before .before .put-u32 .ensures ∙ ap (modifyAt (s .args .at + 4 * l .i) 4 (big 4 .write (getD (s .args .t3) (l .i) 0))) (l .inv .1 .1)
             ∙ lined-more (s .args .s .now) (s .args .at) (s .args .t3) e (s .pre) (l .i) (c .before .before .before .before .loop-test .taken),
       ),
     )
@@ -70,7 +70,7 @@ put-words-spec =
     add-place
     mul-value
     array-read-value
-    put-word-requires
+    put-u32-requires
     add-i
     loop-less
     loop-again

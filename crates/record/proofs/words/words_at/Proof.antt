@@ -1,11 +1,10 @@
 -- `record::words::words_at` meets its contract. The invariant: the first i words are read.
 use Rattle.spec_base.proofs.Folds.{at-set}
-use lib.ListN.{length-set}
+use lib.ListN.{length-set, length, getD}
 use borrow.Author.Needs.{needs}
 use Rattle.spec_base.specs.Layout.{big, slice}
 use Rattle.record.proofs.FieldAccess.{words-read}
 use mathlib.Core.Path.{_≡_, sym, ap, _∙_}
-use lib.ListN.{length, getD}
 use Prim.Native.Nat.{ℕ, _≤_, _<_, _-_, _+_, _*_}
 use native.Mathlib.Omega.{arith}
 use Rattle.record.proofs.words.words_at.Statement.{statement}
@@ -20,14 +19,14 @@ abbrev μ-loop : tie.MeasureT-loop
 loop-holds : tie.Need-loop-holds Inv-loop μ-loop
 loop-holds c = (search needs, (search needs, (λ k l. absurd (omega arith))))
 
-mul-word-at : tie.Need-mul-word-at Inv-loop μ-loop
-mul-word-at c = search needs
+mul-u32-at : tie.Need-mul-u32-at Inv-loop μ-loop
+mul-u32-at c = search needs
 
-add-word-at : tie.Need-add-word-at Inv-loop μ-loop
-add-word-at c = search needs
+add-u32-at : tie.Need-add-u32-at Inv-loop μ-loop
+add-u32-at c = search needs
 
-word-at-requires : tie.Need-word-at-requires Inv-loop μ-loop
-word-at-requires c κs = search needs
+u32-at-requires : tie.Need-u32-at-requires Inv-loop μ-loop
+u32-at-requires c κs = search needs
 
 mul-out : tie.Need-mul-out Inv-loop μ-loop
 mul-out c = search needs
@@ -46,10 +45,10 @@ loop-again c = let l = c .before .before .loop in
     let s = c .before .before .before .before in (
       search needs,
       (
-        length-set (l .out) (l .i) (c .word-at .result) ∙ l .inv .1 .0,
+        length-set (l .out) (l .i) (c .u32-at .result) ∙ l .inv .1 .0,
         λ k h.
-            at-set (λ (w : ℕ). w ≡ big 4 .read (slice (s .args .at + 4 * k) 4 (s .args .s .now))) (l .out) (l .i) k (c .word-at .result) 0 (search needs)
-            (λ e. c .word-at .ensures ∙ ap (λ (j : ℕ). big 4 .read (slice (s .args .at + 4 * j) 4 (s .args .s .now))) (sym e)) (λ ne. l .inv .1 .1 k (omega arith)),
+            at-set (λ (w : ℕ). w ≡ big 4 .read (slice (s .args .at + 4 * k) 4 (s .args .s .now))) (l .out) (l .i) k (c .u32-at .result) 0 (search needs)
+            (λ e. c .u32-at .ensures ∙ ap (λ (j : ℕ). big 4 .read (slice (s .args .at + 4 * j) 4 (s .args .s .now))) (sym e)) (λ ne. l .inv .1 .1 k (omega arith)),
       ),
     )
 
@@ -64,9 +63,9 @@ words-at-spec =
     Inv-loop
     μ-loop
     loop-holds
-    mul-word-at
-    add-word-at
-    word-at-requires
+    mul-u32-at
+    add-u32-at
+    u32-at-requires
     mul-out
     array-write-out
     add-i

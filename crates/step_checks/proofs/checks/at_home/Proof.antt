@@ -1,4 +1,4 @@
--- `verdicts::at_home` meets its contract: by computation.
+-- `step_checks::checks::at_home` meets its contract: by computation.
 use mathlib.Core.Path.{refl}
 use Rattle.step_checks.proofs.checks.at_home.Statement.{statement}
 use Rattle.step_checks.proofs.checks.at_home.Tie as tie

@@ -1,4 +1,4 @@
--- `verdicts::mesh_full` meets its contract: the count of messages is the record's fourth byte.
+-- `step_checks::checks::mesh_full` meets its contract: the count of messages is the record's fourth byte.
 use Rattle.step_checks.proofs.RackBounds.{full-is}
 use borrow.Author.Needs.{needs}
 use Rattle.step_checks.proofs.checks.mesh_full.Statement.{statement}

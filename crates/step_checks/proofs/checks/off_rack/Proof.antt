@@ -1,4 +1,4 @@
--- `verdicts::off_rack` meets its contract: the tests on the first two bytes are those on N and B.
+-- `step_checks::checks::off_rack` meets its contract: the tests on the first two bytes are those on N and B.
 use Rattle.step_checks.proofs.RackBounds.{component-off, block-test}
 use borrow.Author.Needs.{needs}
 use Rattle.step_checks.proofs.checks.off_rack.Statement.{statement}

@@ -1,4 +1,4 @@
--- `verdicts::off_word` meets its contract: the two tests are the two sides of the "or".
+-- `step_checks::checks::off_rack_word` meets its contract: the two tests are the two sides of the "or".
 use Rattle.step_checks.proofs.RackBounds.{off-word, word-test}
 use borrow.Author.Needs.{needs}
 use Rattle.step_checks.proofs.checks.off_rack_word.Statement.{statement}

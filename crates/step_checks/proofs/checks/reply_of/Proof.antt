@@ -1,4 +1,4 @@
--- `verdicts::told` meets its contract: by the cases of a verdict.
+-- `step_checks::checks::reply_of` meets its contract: by the cases of a verdict.
 use mathlib.Core.Path.{sym, ap}
 use borrow.Author.Needs.{needs}
 use Rattle.spec_rack.specs.Rules.{replyOf}

@@ -1,4 +1,4 @@
--- `verdicts::waiting` meets its contract: the claims on a block stand at a place of their own.
+-- `step_checks::checks::waiting_set` meets its contract: the claims on a block stand at a place of their own.
 use mathlib.Core.Path.{ap, _∙_}
 use lib.ListN.{getD}
 use Rattle.spec_rack.specs.Claims.{waiting}
@@ -6,6 +6,7 @@ use Rattle.step_checks.proofs.ClaimsInRecord.{claims-room, claims-read}
 use borrow.Author.Needs.{needs}
 use Rattle.step_checks.proofs.checks.waiting_set.Statement.{statement}
 use Rattle.step_checks.proofs.checks.waiting_set.Tie as tie
+use Rattle.spec_rack.specs.RecordLayout.{boardsIn}
 
 claims-offset-requires : tie.Need-claims-offset-requires
 claims-offset-requires c κs = search needs
@@ -20,7 +21,7 @@ returns c =
     let c1 = c .before in
     let c2 = c1 .before in
     let c3 = c2 .before in
-    c .waiting-at .ensures (getD (c3 .args .rec .now) 0 0)
+    c .waiting-at .ensures (boardsIn (c3 .args .rec .now))
     ∙ ap waiting (claims-read _ (c3 .pre .0) _ (c3 .pre .1) _ (c1 .claims-offset .ensures) (λ k. c2 .shared-slice-known .given k .fits))
 
 pub waiting-set-spec : {M : Type 1} → statement M

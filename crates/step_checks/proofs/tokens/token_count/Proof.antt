@@ -1,4 +1,4 @@
--- `state::tokens` meets its contract: by the owner's mark.
+-- `step_checks::tokens::token_count` meets its contract: by the owner's mark.
 use mathlib.Core.Path.{ap}
 use native.Mathlib.Omega.{arith}
 use Rattle.spec_base.specs.Folds.{toℕ}

@@ -1,4 +1,4 @@
--- `state::more` meets its contract, by the law of state with a message's tokens.
+-- `step_checks::tokens::with_tokens` meets its contract, by the law of state with a message's tokens.
 use borrow.Author.Needs.{needs}
 use Rattle.step_checks.proofs.TokenLaws.{more-is}
 use Rattle.step_checks.proofs.tokens.with_tokens.Statement.{statement}

@@ -1,4 +1,4 @@
--- `state::less` meets its contract, by the law of state less some tokens.
+-- `step_checks::tokens::without_tokens` meets its contract, by the law of removed tokens.
 use borrow.Author.Needs.{needs}
 use Rattle.step_checks.proofs.TokenLaws.{less-is}
 use Rattle.step_checks.proofs.tokens.without_tokens.Statement.{statement}

@@ -1,4 +1,4 @@
--- `delivery::deliver` meets its contract: its test is the table's.
+-- `step_transfer::deliver::deliver` meets its contract: its test is the table's.
 use mathlib.Core.Path.{refl, sym}
 use native.Mathlib.Omega.{arith}
 use borrow.Author.Needs.{needs}

@@ -1,4 +1,4 @@
--- `delivery::hand_over` meets its contract: the message is removed, then the target has its tokens, and its words with data.
+-- `step_transfer::deliver::deliver_message` meets its contract: the message is removed, then the target has its tokens, and its words with data.
 use native.Mathlib.Omega.{arith}
 use borrow.Author.Needs.{needs}
 use Rattle.spec_rack.specs.Rules.{after}

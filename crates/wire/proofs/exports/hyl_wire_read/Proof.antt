@@ -1,12 +1,13 @@
 -- `wire::exports::hyl_wire_read` meets its contract: the reader's answer, as one number and twelve places.
-use mathlib.Core.Path.{_≡_, refl, sym, _∙_}
+use mathlib.Core.Path.{_≡_, refl, sym, ap, _∙_}
+use mathlib.Core.Bool.{Bool, true, false, cond}
 use Prim.Native.Nat.{ℕ, _+_, _≤_, _<_}
 use native.Mathlib.Omega.{arith}
 use mathlib.Core.List.{List}
 use lib.ListN.{length}
-use borrow.Author.Tests.{le-leb, lt-leb}
+use borrow.Author.Tests.{le-leb, lt-leb, not-true, not-false}
 use Rattle.spec_wire.specs.declared.Refusal.{Refusal}
-use Rattle.spec_wire.specs.declared.Refusal.the-variants.{ShortBuffer}
+use Rattle.spec_wire.specs.declared.Refusal.the-variants.{Torn, ShortBuffer}
 use Rattle.spec_wire.specs.Results.{done, refused}
 use Rattle.spec_wire.specs.declared.Step.{Step}
 use Rattle.spec_wire.specs.declared.Reading.{Reading}
@@ -19,6 +20,13 @@ use Rattle.wire_writer.proofs.PlacedRecord.{placed-room, placed-short}
 use borrow.Author.Needs.{needs}
 use Rattle.wire.proofs.exports.hyl_wire_read.Statement.{statement}
 use Rattle.wire.proofs.exports.hyl_wire_read.Tie as tie
+
+-- a reading, by what was parsed of it
+stood : (t : Bool) (s : Step) (a : Reading) → cond t (Read s) (Refused Torn) ≡ a → t ≡ true → Read s ≡ a
+stood t s a e h = ap (λ (u : Bool). cond u (Read s) (Refused Torn)) (sym h) ∙ e
+
+fallen : (t : Bool) (s : Step) (a : Reading) → cond t (Read s) (Refused Torn) ≡ a → t ≡ false → Refused Torn ≡ a
+fallen t s a e h = ap (λ (u : Bool). cond u (Read s) (Refused Torn)) (sym h) ∙ e
 
 -- the three answers
 module _ (a : Reading) where
@@ -39,19 +47,26 @@ module _ (a : Reading) where
         let room : 0 + length (fieldArray s) ≤ length out = omega (arith, places-length s) in
         rw (← e, le-leb (0 + length (fieldArray s)) (length out) room) (p, q ∙ placed-room (fieldArray s) 0 out room)
 
-read-requires : tie.Need-read-requires
-read-requires c κs = search needs
-
-enum-known-step : tie.Need-enum-known-step
-enum-known-step c = search needs
+parse-requires : tie.Need-parse-requires
+parse-requires c κs = search needs
 
 pack-refused-requires : tie.Need-pack-refused-requires
 pack-refused-requires c κs = search needs
 
 returns : tie.Need-returns
 returns c =
-    let step = c .before .before .before in
-    short _ (step .step .given .0 .0) _ (sym (step .step .given .1) ∙ step .before .before .read .ensures) (omega arith) (c .pack-refused .ensures)
+    let way = c .before in
+    let p = way .before .before .parse in
+    torn _ Torn _ (fallen (p .result .ok) (p .result .step) _ (p .ensures) (not-true (p .result .ok) (way .if1 .taken))) (c .pack-refused .ensures)
+
+pack-refused-requires-2 : tie.Need-pack-refused-requires-2
+pack-refused-requires-2 c κs = search needs
+
+returns-2 : tie.Need-returns-2
+returns-2 c =
+    let way = c .before .before in
+    let p = way .before .before .parse in
+    short _ (p .result .step) _ (stood (p .result .ok) (p .result .step) _ (p .ensures) (not-false (p .result .ok) (way .if1 .left))) (omega arith) (c .pack-refused2 .ensures)
 
 put-field-array-requires : tie.Need-put-field-array-requires
 put-field-array-requires c κs = search needs
@@ -59,37 +74,25 @@ put-field-array-requires c κs = search needs
 pack-done-requires : tie.Need-pack-done-requires
 pack-done-requires c κs = search needs
 
-enum-known-refusal : tie.Need-enum-known-refusal
-enum-known-refusal c = search needs
-
-pack-refused-requires-2 : tie.Need-pack-refused-requires-2
-pack-refused-requires-2 c κs = search needs
-
 same-length : tie.Need-same-length
 same-length c = search needs
 
-returns-2 : tie.Need-returns-2
-returns-2 c =
-    let step = c .before .before .before .before .before .before .before in
-    full _ (step .step .given .0 .0) _ (sym (step .step .given .1) ∙ step .before .before .read .ensures) (omega arith) (c .pack-done .ensures) (c .before .before .before .put-field-array .ensures)
-
 returns-3 : tie.Need-returns-3
 returns-3 c =
-    let refusal = c .before .before in
-    torn _ _ _ (sym (refusal .refusal .given .1) ∙ refusal .before .before .read .ensures) (c .pack-refused2 .ensures)
+    let way = c .before .before .before .before .before .before in
+    let p = way .before .before .parse in
+    full _ (p .result .step) _ (stood (p .result .ok) (p .result .step) _ (p .ensures) (not-false (p .result .ok) (way .if1 .left))) (omega arith) (c .pack-done .ensures) (c .before .before .before .put-field-array .ensures)
 
 pub hyl-wire-read-spec : {M : Type 1} → statement M
 hyl-wire-read-spec =
     tie.close
     (tie.spec
-    read-requires
-    enum-known-step
+    parse-requires
     pack-refused-requires
     returns
+    pack-refused-requires-2
+    returns-2
     put-field-array-requires
     pack-done-requires
-    enum-known-refusal
-    pack-refused-requires-2
     same-length
-    returns-2
     returns-3)

@@ -1,4 +1,4 @@
--- `cuts::cut_end` meets its contract: inside the list it is `cut`, and past it nothing is cut.
+-- `wire_reader::frames::frame_end` meets its contract: inside the list it is `cut`, and past it nothing is cut.
 use Rattle.wire_reader.proofs.Framing.{cut-past}
 use borrow.Author.Needs.{needs}
 use Rattle.wire_reader.proofs.frames.frame_end.Statement.{statement}

@@ -1,4 +1,4 @@
--- `places::copy_twelve` meets its contract: the numbers passed stand at the front.
+-- `wire_writer::fields::copy_twelve` meets its contract: the numbers passed stand at the front.
 use mathlib.Core.Path.{_≡_, refl, sym, _∙_}
 use Prim.Native.Nat.{ℕ, suc, _+_, _-_, _≤_, _<_}
 use native.Mathlib.Omega.{arith}

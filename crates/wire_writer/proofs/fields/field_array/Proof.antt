@@ -1,4 +1,4 @@
--- `places::places_of` meets its contract: each arm has the numbers of its step.
+-- `wire_writer::fields::field_array` meets its contract: each arm has the numbers of its step.
 use Rattle.spec_wire.specs.Kinds.{fieldArray}
 use borrow.Author.Needs.{needs}
 use Rattle.wire_writer.proofs.fields.field_array.Statement.{statement}

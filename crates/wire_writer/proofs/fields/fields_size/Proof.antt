@@ -1,4 +1,4 @@
--- `places::fields_size` meets its contract: the sum, and the sizes of the fields left, make the sizes of all.
+-- `wire_writer::fields::fields_size` meets its contract: the sum, and the sizes of the fields left, make the sizes of all.
 use native.Mathlib.Nat.{add-zero}
 use denote.Ref.{now}
 use mathlib.Core.Path.{_≡_, ap}

@@ -1,4 +1,4 @@
--- `places::number_of` meets its contract: the number read, or 0 past the last.
+-- `wire_writer::fields::number_of` meets its contract: the number read, or 0 past the last.
 use mathlib.Core.Path.{refl, sym}
 use native.Mathlib.Omega.{arith}
 use denote.Ref.{now}

@@ -1,4 +1,4 @@
--- `places::put_field` meets its contract: the tag, the length and the value are placed one after the other.
+-- `wire_writer::fields::put_field` meets its contract: the tag, the length and the value are placed one after the other.
 use native.Mathlib.Nat.{add-sub-cancel-left}
 use denote.Ref.{now}
 use Rattle.spec_wire.specs.declared.Field.{Field}
@@ -54,10 +54,14 @@ sub-put-number-2 c = search needs
 part-put-number-start-2 : tie.Need-part-put-number-start-2
 part-put-number-start-2 c = search needs
 
+-- whatever the tag, a byte written leaves the length
+kept : (l : List ℕ) (v : ℕ) {k : ℕ} → k ≡ length (set l 0 v) → k ≡ length l
+kept l v e = e ∙ length-set l 0 v
+
 part-put-number-end-2 : tie.Need-part-put-number-end-2
 part-put-number-end-2 c =
     let args = c .before .before .before .before .before .args in
-    omega (arith, c .before .out .given .1, length-set (now (args .out)) 0 (args .field .tag))
+    omega (arith, kept (now (args .out)) _ (c .before .out .given .1))
 
 put-number-requires-2 : tie.Need-put-number-requires-2
 put-number-requires-2 c κs = search needs
@@ -65,7 +69,7 @@ put-number-requires-2 c κs = search needs
 same-length : tie.Need-same-length
 same-length c =
     let args = c .before .before .before .before .before .before .before .before .before .args in
-    c .before .out2 .given .1 ∙ c .before .before .before .before .before .out .given .1 ∙ length-set (now (args .out)) 0 (args .field .tag)
+    c .before .out2 .given .1 ∙ c .before .before .before .before .before .out .given .1 ∙ length-set (now (args .out)) 0 _
 
 returns : tie.Need-returns
 returns c =

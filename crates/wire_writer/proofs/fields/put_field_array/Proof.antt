@@ -1,4 +1,4 @@
--- `places::put_places` meets its contract: the numbers of a step are twelve.
+-- `wire_writer::fields::put_field_array` meets its contract: the numbers of a step are twelve.
 use mathlib.Core.Path.{_≡_}
 use Prim.Native.Nat.{ℕ}
 use native.Mathlib.Omega.{arith}

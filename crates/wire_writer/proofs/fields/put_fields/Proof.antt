@@ -1,4 +1,4 @@
--- `places::put_fields` meets its contract: a turn of the loop places a field, and those left follow it.
+-- `wire_writer::fields::put_fields` meets its contract: a turn of the loop places a field, and those left follow it.
 use borrow.Author.Needs.{needs}
 use mathlib.Core.Path.{_≡_, refl, sym, ap, _∙_}
 use Prim.Native.Nat.{ℕ, _+_, _-_, _≤_, _<_}

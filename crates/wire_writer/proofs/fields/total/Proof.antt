@@ -1,4 +1,4 @@
--- `places::total` meets its contract: the sum of the numbers passed.
+-- `wire_writer::fields::total` meets its contract: the sum of the numbers passed.
 use mathlib.Core.Path.{_≡_, refl}
 use Prim.Native.Nat.{_*_, _-_, _≤_}
 use native.Mathlib.Omega.{arith}

@@ -1,10 +1,11 @@
--- `table::tags_of` meets its contract: each arm has the tags of its kind's fields, and the default the tag of no field.
+-- `wire_writer::table::tags_of` meets its contract: each arm has the tags of its kind's fields, and the default the tag of no field.
 use mathlib.Core.Path.{_≡_, refl}
 use Prim.Native.Nat.{ℕ, _≤_, _<_}
 use native.Mathlib.Omega.{arith}
 use mathlib.Core.List.{[], _∷_}
-use Rattle.spec_wire.specs.declared.Tags.{Tags}
-use Rattle.spec_wire.specs.Kinds.{fieldOf, kindOf, TagsOf}
+use Rattle.wire_writer.specs.declared.table.Tags.{Tags}
+use Rattle.spec_wire.specs.Kinds.{fieldOf, kindOf}
+use Rattle.wire_writer.specs.KindTags.{TagsOf}
 use Rattle.spec_base.proofs.Lists.{each-at}
 use Rattle.spec_wire.proofs.KindTable.{kind-none}
 use Rattle.wire_writer.proofs.table.tags_of.Statement.{statement}

@@ -1,4 +1,4 @@
--- `told::make_up` meets its contract: the fields left, with the sum so far, make up the total where all of them do.
+-- `wire_writer::validate::fields_sum_to` meets its contract: the fields left, with the sum so far, make up the total where all of them do.
 use mathlib.Core.Path.{_≡_, refl, sym, _∙_}
 use Prim.Native.Nat.{ℕ, _+_, _*_, _-_, _≤_, _<_}
 use native.Mathlib.Omega.{arith}

@@ -1,4 +1,4 @@
--- `told::tells` meets its contract: the kind and its fields make up the sum of the numbers that tell a step.
+-- `wire_writer::validate::is_step` meets its contract: the kind and its fields make up the sum of the numbers that tell a step.
 use Rattle.wire_writer.proofs.FieldArraySum.{few, tells}
 use borrow.Author.Needs.{needs}
 use Rattle.wire_writer.proofs.validate.is_step.Statement.{statement}

@@ -1,0 +1,177 @@
+-- The lanes of a block against its cells: a place of the lanes is fine where its cell is well-formed and sound, and the places above the last component where they are 0.
+use Prim.Native.Nat.{ℕ, zero, suc, _+_, _*_, _≤_, _<_}
+use native.Mathlib.Omega.{arith}
+use mathlib.Core.Path.{_≡_, refl, sym, ap, _∙_}
+use mathlib.Core.Logic.{⊎-elim}
+use mathlib.Core.Bool.{Bool, true, false, not, _&&_}
+use mathlib.Core.List.{List}
+use lib.ListN.{length, getD}
+use lib.Dec.{eqb, leb, ltb}
+use borrow.Author.Tests.{eq-eqb, ne-eqb, eqb-true, le-leb, leb-true, ltb-true, lt-ltb}
+use Rattle.spec_base.specs.Folds.{toℕ, implies, allBelow}
+use Rattle.spec_base.specs.Layout.{slice, byte, flag, lane, zipped}
+use Rattle.spec_base.proofs.Tests.{and-l, and-r, and-of, same-test, lt-or-le, implied, implies-of, eqb-one}
+use Rattle.spec_base.proofs.Folds.{below-at, below-of}
+use Rattle.spec_base.proofs.Forms.{formed-pair}
+use Rattle.spec_base.proofs.Lanes.{lane-of, lane-each, lane-rest}
+use Rattle.spec_rack.specs.Soundness.{soundCell}
+use Rattle.spec_rack.specs.RecordLayout.{tokenLanes, lanesSize}
+use Rattle.record.proofs.FieldBytes.{flag-formed}
+use Rattle.record_lanes.specs.Lanes.{plainAt, ownerAt, validAt, holdsToken, soundLane, soundLanes, unusedLanesEmpty}
+
+-- ---- one place of the lanes
+
+-- 1 where a number is not 0
+some-one : (x : ℕ) → 0 < x → toℕ (not (eqb x 0)) ≡ 1
+some-one x l = ap (λ (t : Bool). toℕ (not t)) (ne-eqb x 0 (λ e. omega arith))
+
+some-le : (x : ℕ) → toℕ (not (eqb x 0)) ≤ x
+some-le x =
+    ⊎-elim (λ (l : 0 < x). omega (arith, some-one x l)) (λ (l : x ≤ 0). omega (arith, ap (λ (t : Bool). toℕ (not t)) (eq-eqb x 0 (omega arith))))
+    (lt-or-le 0 x)
+
+-- of a cell with marks of 0 or 1 and eight words
+pub lane-cell : (p o v : ℕ) (ws : List ℕ) → o < 2 → v < 2 → length ws ≡ 8
+    → soundCell (record { plain = p; owner = eqb o 1; valid = eqb v 1; words = ws }) ≡ (leb o v && leb v (toℕ (not (eqb (p + o) 0))))
+lane-cell p o v ws ho hv e =
+    same-test (eqb (length ws) 8 && implies (eqb v 1) (ltb 0 (p + toℕ (eqb o 1))) && implies (eqb o 1) (eqb v 1)) (leb o v && leb v (toℕ (not (eqb (p + o) 0))))
+    (λ q.
+    let held : implies (eqb v 1) (ltb 0 (p + toℕ (eqb o 1))) ≡ true = search (and-l, and-r) in
+    let beside : implies (eqb o 1) (eqb v 1) ≡ true = search (and-l, and-r) in
+    and-of (leb o v) (leb v (toℕ (not (eqb (p + o) 0))))
+    (le-leb o v (⊎-elim (λ z. omega arith) (λ z. omega (arith, eqb-true v 1 (implied (eqb o 1) (eqb v 1) beside (eq-eqb o 1 (omega arith))))) (lt-or-le o 1)))
+    (le-leb v (toℕ (not (eqb (p + o) 0)))
+    (⊎-elim (λ z. omega arith)
+    (λ z. omega (arith, some-one (p + o) (omega (arith, eqb-one o ho, ltb-true 0 (p + toℕ (eqb o 1)) (implied (eqb v 1) (ltb 0 (p + toℕ (eqb o 1))) held (eq-eqb v 1 (omega arith)))))))
+    (lt-or-le v 1))))
+    (λ q.
+    let a : o ≤ v = leb-true o v (and-l (leb o v) (leb v (toℕ (not (eqb (p + o) 0)))) q) in
+    let b : v ≤ toℕ (not (eqb (p + o) 0)) = leb-true v (toℕ (not (eqb (p + o) 0))) (and-r (leb o v) (leb v (toℕ (not (eqb (p + o) 0)))) q) in
+    and-of (eqb (length ws) 8 && implies (eqb v 1) (ltb 0 (p + toℕ (eqb o 1)))) (implies (eqb o 1) (eqb v 1))
+    (and-of (eqb (length ws) 8) (implies (eqb v 1) (ltb 0 (p + toℕ (eqb o 1)))) (eq-eqb (length ws) 8 e)
+    (implies-of (eqb v 1) (ltb 0 (p + toℕ (eqb o 1))) (λ z. lt-ltb 0 (p + toℕ (eqb o 1)) (omega (arith, eqb-one o ho, eqb-true v 1 z, some-le (p + o))))))
+    (implies-of (eqb o 1) (eqb v 1) (λ z. eq-eqb v 1 (omega (arith, eqb-true o 1 z)))))
+
+-- ---- the lanes of a block
+
+module _ (n at : ℕ) (s : List ℕ) (h : n ≤ 15) where
+  -- what their form says
+  pub record Lanes : Type 0 where
+    pub owners : (i : ℕ) → i ≤ n → ownerAt s at i < 2
+    pub valids : (i : ℕ) → i ≤ n → validAt s at i < 2
+    pub no-plain : (i : ℕ) → n < i → i < 16 → plainAt s at i ≡ 0
+    pub no-owner : (i : ℕ) → n < i → i < 16 → ownerAt s at i ≡ 0
+    pub no-valid : (i : ℕ) → n < i → i < 16 → validAt s at i ≡ 0
+
+  abbrev few : suc n ≤ 16
+  few = omega arith
+
+  abbrev plainForm : Bool
+  plainForm = lane byte (suc n) .wellFormed (slice at 16 s)
+
+  abbrev ownerForm : Bool
+  ownerForm = lane flag (suc n) .wellFormed (slice (at + 16) 16 s)
+
+  abbrev validForm : Bool
+  validForm = lane flag (suc n) .wellFormed (slice (at + 16 + 16) 16 s)
+
+  form-is : tokenLanes n .wellFormed (slice at lanesSize s) ≡ (plainForm && (ownerForm && validForm))
+  unfolding tokenLanes
+  form-is =
+      formed-pair (lane byte (suc n)) (zipped (lane flag (suc n)) (lane flag (suc n))) at s
+      ∙ ap (λ (t : Bool). plainForm && t) (formed-pair (lane flag (suc n)) (lane flag (suc n)) (at + 16) s)
+
+  -- a mark of a lane at p
+  mark : (p i : ℕ) → lane flag (suc n) .wellFormed (slice p 16 s) ≡ true → i ≤ n → getD s (p + i) 0 < 2
+  mark p i e l = ltb-true (getD s (p + i) 0) 2 (sym (flag-formed s (p + 1 * i) (p + i) (omega arith)) ∙ lane-each flag (suc n) few p s e i (omega arith))
+
+  far : (i : ℕ) → at + 16 + 16 + i ≡ at + 32 + i
+  far i = omega arith
+
+  pub lanes-facts : tokenLanes n .wellFormed (slice at lanesSize s) ≡ true → Lanes
+  lanes-facts e =
+      let q : (plainForm && (ownerForm && validForm)) ≡ true = sym form-is ∙ e in
+      let a : plainForm ≡ true = and-l plainForm (ownerForm && validForm) q in
+      let b : ownerForm ≡ true = and-l ownerForm validForm (and-r plainForm (ownerForm && validForm) q) in
+      let c : validForm ≡ true = and-r ownerForm validForm (and-r plainForm (ownerForm && validForm) q) in
+      record {
+        owners = λ i l. mark (at + 16) i b l;
+        valids = λ i l. rw (far i) at (mark (at + 16 + 16) i c l);
+        no-plain = λ i l u. lane-rest byte (suc n) few at s a i (omega arith) (omega arith);
+        no-owner = λ i l u. lane-rest flag (suc n) few (at + 16) s b i (omega arith) (omega arith);
+        no-valid = λ i l u. ap (λ (k : ℕ). getD s k 0) (sym (far i)) ∙ lane-rest flag (suc n) few (at + 16 + 16) s c i (omega arith) (omega arith);
+      }
+
+  pub lanes-form : Lanes → tokenLanes n .wellFormed (slice at lanesSize s) ≡ true
+  lanes-form f =
+      form-is
+      ∙ and-of plainForm (ownerForm && validForm)
+      (lane-of byte (suc n) few at s (λ i l. refl) (λ i l u. f .no-plain i (omega arith) (omega arith)))
+      (and-of ownerForm validForm
+      (lane-of flag (suc n) few (at + 16) s
+      (λ i l. flag-formed s (at + 16 + 1 * i) (at + 16 + i) (omega arith) ∙ lt-ltb (getD s (at + 16 + i) 0) 2 (f .owners i (omega arith)))
+      (λ i l u. f .no-owner i (omega arith) (omega arith)))
+      (lane-of flag (suc n) few (at + 16 + 16) s
+      (λ i l. flag-formed s (at + 16 + 16 + 1 * i) (at + 32 + i) (omega arith) ∙ lt-ltb (getD s (at + 32 + i) 0) 2 (f .valids i (omega arith)))
+      (λ i l u. ap (λ (k : ℕ). getD s k 0) (far i) ∙ f .no-valid i (omega arith) (omega arith))))
+
+  -- ---- all places that are fine are as the layout has them
+
+  module _ (a : soundLanes s at ≡ true) (b : unusedLanesEmpty n s at ≡ true) where
+    fine-order : (i : ℕ) → i < 16 → ownerAt s at i ≤ validAt s at i
+    unfolding soundLanes
+    fine-order i l =
+        leb-true (ownerAt s at i) (validAt s at i) (and-l (leb (ownerAt s at i) (validAt s at i)) (leb (validAt s at i) (toℕ (holdsToken s at i))) (below-at (soundLane s at) 16 a i l))
+
+    fine-held : (i : ℕ) → i < 16 → validAt s at i ≤ toℕ (holdsToken s at i)
+    unfolding soundLanes
+    fine-held i l =
+        leb-true (validAt s at i) (toℕ (holdsToken s at i)) (and-r (leb (ownerAt s at i) (validAt s at i)) (leb (validAt s at i) (toℕ (holdsToken s at i))) (below-at (soundLane s at) 16 a i l))
+
+    fine-mark : (i : ℕ) → i < 16 → validAt s at i < 2
+    fine-mark i l = omega (arith, fine-held i l, one-most (holdsToken s at i))
+      where
+        one-most : (t : Bool) → toℕ t ≤ 1
+        one-most true = omega arith
+        one-most false = omega arith
+
+    fine-empty : (i : ℕ) → n < i → i < 16 → plainAt s at i + ownerAt s at i ≡ 0
+    unfolding unusedLanesEmpty
+    fine-empty i l u =
+        eqb-true (plainAt s at i + ownerAt s at i) 0
+        (back (eqb (plainAt s at i + ownerAt s at i) 0)
+        (implied (ltb n i) (not (holdsToken s at i)) (below-at (λ j. implies (ltb n j) (not (holdsToken s at j))) 16 b i u) (lt-ltb n i l)))
+      where
+        back : (t : Bool) → not (not t) ≡ true → t ≡ true
+        back true e = refl
+        back false e = e
+
+    pub lanes-fine : Lanes
+    lanes-fine =
+        record {
+          owners = λ i l. omega (arith, fine-order i (omega arith), fine-mark i (omega arith));
+          valids = λ i l. fine-mark i (omega arith);
+          no-plain = λ i l u. omega (arith, fine-empty i l u);
+          no-owner = λ i l u. omega (arith, fine-empty i l u);
+          no-valid = λ i l u. omega (arith, fine-empty i l u, fine-held i u, some-le (plainAt s at i + ownerAt s at i));
+        }
+
+  -- of lanes that are as the layout has them, the first n + 1 places decide
+  pub lanes-same : Lanes → allBelow (suc n) (soundLane s at) ≡ (soundLanes s at && unusedLanesEmpty n s at)
+  unfolding soundLanes unusedLanesEmpty
+  lanes-same f =
+      same-test (allBelow (suc n) (soundLane s at)) (allBelow 16 (soundLane s at) && allBelow 16 (λ i. implies (ltb n i) (not (holdsToken s at i))))
+      (λ q. and-of (allBelow 16 (soundLane s at)) (allBelow 16 (λ i. implies (ltb n i) (not (holdsToken s at i))))
+      (below-of (soundLane s at) 16 (λ i u. ⊎-elim (λ (l : n < i). above i l u) (λ (l : i ≤ n). below-at (soundLane s at) (suc n) q i (omega arith)) (lt-or-le n i)))
+      (below-of (λ i. implies (ltb n i) (not (holdsToken s at i))) 16 (λ i u. implies-of (ltb n i) (not (holdsToken s at i)) (λ e. nothing i (ltb-true n i e) u))))
+      (λ q. below-of (soundLane s at) (suc n) (λ i l. below-at (soundLane s at) 16 (and-l (allBelow 16 (soundLane s at)) (allBelow 16 (λ j. implies (ltb n j) (not (holdsToken s at j)))) q) i (omega arith)))
+    where
+      nothing : (i : ℕ) → n < i → i < 16 → not (holdsToken s at i) ≡ true
+      nothing i l u =
+          ap (λ (t : Bool). not (not t)) (eq-eqb (plainAt s at i + ownerAt s at i) 0 (omega (arith, f .no-plain i l u, f .no-owner i l u)))
+
+      above : (i : ℕ) → n < i → i < 16 → soundLane s at i ≡ true
+      above i l u =
+          and-of (leb (ownerAt s at i) (validAt s at i)) (leb (validAt s at i) (toℕ (holdsToken s at i)))
+          (le-leb (ownerAt s at i) (validAt s at i) (omega (arith, f .no-owner i l u)))
+          (le-leb (validAt s at i) (toℕ (holdsToken s at i)) (omega (arith, f .no-valid i l u)))
