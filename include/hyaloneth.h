@@ -1,7 +1,8 @@
 /* The engine of the hub card: it keeps the memory of a rack's boards coherent by Token Coherence.
  *
- * All state is the record, bytes at the front of a buffer that the caller owns and lends at every call (docs/RECORD.md has its layout). The engine
- * keeps nothing between calls. A policy hands in step records as bytes; hyaloneth_wire.h writes and reads them.
+ * All state is the record, bytes at the front of a buffer that the caller owns and lends at every call. docs/RECORD.md has its layout, and
+ * hyaloneth_view.h reads its figures. The engine keeps nothing between calls. A policy hands in step records as bytes; hyaloneth_wire.h writes and
+ * reads them.
  *
  * A result is one 64-bit number: bits 56 to 63 the kind of answer, bits 0 to 31 its number; HYL_KIND, HYL_REFUSAL, HYL_COUNT, HYL_WORD_OF and
  * HYL_LETTER_OF take it apart. A call that is refused changes nothing that was lent. No call relies on its caller having looked first: every
@@ -26,9 +27,19 @@ extern "C" {
 #define HYL_WORD_GIVEN 2u   /* a load: the word */
 #define HYL_LETTER_GIVEN 3u /* a state letter: its ASCII code */
 
-/* The word of an answered load, and the letter of a state letter; 0 where the result is none. */
-#define HYL_WORD_OF(result) (HYL_KIND(result) == HYL_WORD_GIVEN ? (uint32_t)(result) : (uint32_t)0)
-#define HYL_LETTER_OF(result) (HYL_KIND(result) == HYL_LETTER_GIVEN ? (char)(uint8_t)(result) : '\0')
+/* The word of an answered load, and the letter of a state letter; 0 where the result is none. The names in capitals stand for the functions. */
+static inline uint32_t hyl_word_of(uint64_t result)
+{
+    return hyl_kind(result) == HYL_WORD_GIVEN ? (uint32_t)result : 0;
+}
+
+static inline char hyl_letter_of(uint64_t result)
+{
+    return hyl_kind(result) == HYL_LETTER_GIVEN ? (char)(uint8_t)result : '\0';
+}
+
+#define HYL_WORD_OF(result) hyl_word_of(result)
+#define HYL_LETTER_OF(result) hyl_letter_of(result)
 
 /* The refusals, by document 01's numbers. HYL_TORN (1) and HYL_SHORT_BUFFER (20) are in hyaloneth_wire.h. */
 #define HYL_UNSOUND 2u      /* buffer too short for a record, or record not sound */
@@ -51,13 +62,14 @@ extern "C" {
 #define HYL_SIZE 19u        /* opening with N, B or T out of range */
 
 /* The longest record, in bytes: that of 32 blocks. */
-#define HYL_RECORD_LONGEST 21380
+#define HYL_RECORD_LONGEST 22816
 
 /* How many bytes the record of a rack of `blocks` blocks takes: done with the count, or refused with HYL_SIZE where blocks is not 1 to 32. */
 uint64_t hyl_record_len(uint32_t blocks);
 
 /* Opens a record at the front of a buffer: home holds all tokens of each block, valid, and all words are 0. What the buffer held before does not
- * matter, and its bytes past the record stay as they are.
+ * matter, and its bytes past the record stay as they are. So do the bytes that the layout leaves as room: two records with the same figures may
+ * differ there.
  *   rec, rec_len  the buffer, and how many bytes it has
  *   boards        N, 1 to 15
  *   blocks        B, 1 to 32

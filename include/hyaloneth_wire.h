@@ -43,16 +43,32 @@ extern "C" {
 /* How many places there are. */
 #define HYL_WIRE_PLACES 12
 
-/* The longest record, in bytes. */
+/* The longest step record, in bytes. */
 #define HYL_WIRE_LONGEST 27
 
 /* A result taken apart: its kind (HYL_DONE or HYL_REFUSED), the refusal's number (0 where there is none), the count of bytes placed (0 where it
- * was refused). */
+ * was refused). Each is a function, so that an argument such as a call is evaluated once; the names in capitals stand for the functions. */
 #define HYL_DONE 0u
 #define HYL_REFUSED 1u
-#define HYL_KIND(result) ((unsigned)((uint64_t)(result) >> 56))
-#define HYL_REFUSAL(result) (HYL_KIND(result) == HYL_REFUSED ? (uint32_t)(result) : (uint32_t)0)
-#define HYL_COUNT(result) (HYL_KIND(result) == HYL_DONE ? (uint32_t)(result) : (uint32_t)0)
+
+static inline unsigned hyl_kind(uint64_t result)
+{
+    return (unsigned)(result >> 56);
+}
+
+static inline uint32_t hyl_refusal(uint64_t result)
+{
+    return hyl_kind(result) == HYL_REFUSED ? (uint32_t)result : 0;
+}
+
+static inline uint32_t hyl_count(uint64_t result)
+{
+    return hyl_kind(result) == HYL_DONE ? (uint32_t)result : 0;
+}
+
+#define HYL_KIND(result) hyl_kind(result)
+#define HYL_REFUSAL(result) hyl_refusal(result)
+#define HYL_COUNT(result) hyl_count(result)
 
 /* The refusals of the two calls. */
 #define HYL_TORN 1u          /* bytes are no step record, or numbers no step */
@@ -65,7 +81,7 @@ extern "C" {
  * Done, with the count 0; refused with HYL_TORN where the bytes are no record, then with HYL_SHORT_BUFFER where out_len is below 12. */
 uint64_t hyl_wire_read(const uint8_t *bytes, size_t bytes_len, uint32_t *out, size_t out_len);
 
-/* Writes the record of the step that numbers[0] to numbers[11] tell to out[at] and the bytes after it; bytes around it stay as they are.
+/* Writes the record of the step that numbers[0] to numbers[11] encode to out[at] and the bytes after it; bytes around it stay as they are.
  *   numbers, numbers_len  the step, and how many numbers there are; those past the twelfth are not read
  *   out, out_len          the buffer, and how many bytes it has
  *   at                    the offset of the record's first byte

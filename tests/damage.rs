@@ -1,7 +1,21 @@
 //! A second count of damaged records that are sound, written from document 01's "Sound means" and docs/RECORD.md.
-//! It prints what the program crate `damage` prints; the two are compared.
+//! It prints what the program of crate `test_damage` prints; the two are compared.
 
-/// A cell, a message and a rack as plain values.
+// The layout of docs/RECORD.md: where messages and blocks start, and the figures within them.
+const MESSAGES: usize = 32;
+const MESSAGE_SIZE: usize = 40;
+const MESSAGE_WORDS: usize = 8;
+const BLOCKS: usize = 2592;
+const BLOCK_SIZE: usize = 632;
+const OWNERS: usize = 16;
+const VALID_MARKS: usize = 32;
+const BARRING_SETS: usize = 80;
+const WAITING_SET: usize = 112;
+
+/// A block has places for so many components.
+const PLACES: usize = 16;
+
+/// A cell and a message as plain values.
 struct Cell {
     plain: u32,
     owner: u8,
@@ -15,6 +29,7 @@ struct Message {
     plain: u32,
     owner: u8,
     data: u8,
+    spare: [u8; 2],
     clear: bool,
 }
 
@@ -23,12 +38,12 @@ fn number(bytes: &[u8]) -> u32 {
 }
 
 fn cell(rec: &[u8], block: usize, component: usize) -> Cell {
-    let at = 2436 + 592 * block + 35 * component;
-    Cell { plain: rec[at].into(), owner: rec[at + 1], valid: rec[at + 2] }
+    let at = BLOCKS + BLOCK_SIZE * block + component;
+    Cell { plain: rec[at].into(), owner: rec[at + OWNERS], valid: rec[at + VALID_MARKS] }
 }
 
 fn message(rec: &[u8], i: usize) -> Message {
-    let m = &rec[4 + 38 * i..][..38];
+    let m = &rec[MESSAGES + MESSAGE_SIZE * i..][..MESSAGE_SIZE];
     Message {
         sender: m[0],
         target: m[1],
@@ -36,13 +51,17 @@ fn message(rec: &[u8], i: usize) -> Message {
         plain: m[3].into(),
         owner: m[4],
         data: m[5],
-        clear: m[6..].chunks(4).all(|word| number(word) == 0),
+        spare: [m[6], m[7]],
+        clear: m[MESSAGE_WORDS..].chunks(4).all(|word| number(word) == 0),
     }
 }
 
-fn set(rec: &[u8], block: usize, i: usize) -> u32 {
-    let at = 2436 + 592 * block + 560 + 2 * i;
-    number(&rec[at..at + 2])
+fn waiting_set(rec: &[u8], block: usize) -> u32 {
+    number(&rec[BLOCKS + BLOCK_SIZE * block + WAITING_SET..][..2])
+}
+
+fn barring_set(rec: &[u8], block: usize, board: usize) -> u32 {
+    number(&rec[BLOCKS + BLOCK_SIZE * block + BARRING_SETS + 2 * board..][..2])
 }
 
 /// "Sound means", sentence by sentence.
@@ -52,13 +71,14 @@ fn sound(rec: &[u8]) -> bool {
     }
     let (n, b, t, m) = (usize::from(rec[0]), usize::from(rec[1]), u32::from(rec[2]), usize::from(rec[3]));
     let sizes = (1..=15).contains(&n) && (1..=32).contains(&b) && n as u32 <= t && t <= 64;
-    if !sizes || m > 64 || rec.len() < 2436 + 592 * b {
+    if !sizes || m > 64 || rec.len() < BLOCKS + BLOCK_SIZE * b {
         return false;
     }
     let messages: Vec<Message> = (0..m).map(|i| message(rec, i)).collect();
     let known = messages.iter().all(|x| {
         x.owner <= 1
             && x.data <= 1
+            && x.spare == [0, 0]
             && (x.data == 1 || x.clear)
             && usize::from(x.sender) <= n
             && usize::from(x.target) <= n
@@ -81,13 +101,18 @@ fn sound(rec: &[u8]) -> bool {
                     && (x.owner == 0 || x.valid == 1)
             });
             let boards = |s: u32| (0..16).all(|i| s >> i & 1 == 0 || (1..=n).contains(&i)) && s < 1 << 16;
-            let waiting = set(rec, k, 0);
+            let waiting = waiting_set(rec, k);
             let sets = boards(waiting)
                 && (1..=n).all(|i| {
-                    let barring = set(rec, k, i);
+                    let barring = barring_set(rec, k, i);
                     boards(barring) && barring & !waiting == 0 && (waiting >> i & 1 == 0 || barring == 0)
                 });
-            plain + owners == t && owners == 1 && marks && sets
+            // The layout has 0 where a component is above N, and where home would have a barring set.
+            let spare = (n + 1..PLACES).all(|c| {
+                let x = cell(rec, k, c);
+                x.plain == 0 && x.owner == 0 && x.valid == 0 && barring_set(rec, k, c) == 0
+            }) && barring_set(rec, k, 0) == 0;
+            plain + owners == t && owners == 1 && marks && sets && spare
         })
 }
 
@@ -108,12 +133,20 @@ fn damaged(rec: &mut [u8]) -> u64 {
 }
 
 fn fresh(n: u8, b: u8, t: u8) -> Vec<u8> {
-    let mut rec = vec![0; 2436 + 592 * usize::from(b)];
+    let mut rec = vec![0; BLOCKS + BLOCK_SIZE * usize::from(b)];
     rec[..4].copy_from_slice(&[n, b, t, 0]);
     for k in 0..usize::from(b) {
-        rec[2436 + 592 * k..][..3].copy_from_slice(&[t - 1, 1, 1]);
+        put_cell(&mut rec, k, 0, [t - 1, 1, 1]);
     }
     rec
+}
+
+/// Sets the plain count, the owner's mark and the valid mark of a component.
+fn put_cell(rec: &mut [u8], block: usize, component: usize, figures: [u8; 3]) {
+    let at = BLOCKS + BLOCK_SIZE * block + component;
+    for (lane, figure) in [0, OWNERS, VALID_MARKS].iter().zip(figures) {
+        rec[at + lane] = figure;
+    }
 }
 
 fn main() {
@@ -124,12 +157,12 @@ fn main() {
     println!("fresh: {}", damaged(&mut rec));
     // Board 1 holds a plain token with no data, one is in flight without data, the owner with data; board 2 waits and bars board 1.
     rec[3] = 2;
-    rec[4..10].copy_from_slice(&[0, 1, 0, 1, 0, 0]);
-    rec[42..48].copy_from_slice(&[0, 2, 0, 0, 1, 1]);
-    rec[51] = 7;
-    rec[2436..2439].copy_from_slice(&[0, 0, 0]);
-    rec[2471..2474].copy_from_slice(&[1, 0, 0]);
-    rec[2997] = 4;
-    rec[2999] = 4;
+    rec[MESSAGES..][..6].copy_from_slice(&[0, 1, 0, 1, 0, 0]);
+    rec[MESSAGES + MESSAGE_SIZE..][..6].copy_from_slice(&[0, 2, 0, 0, 1, 1]);
+    rec[MESSAGES + MESSAGE_SIZE + MESSAGE_WORDS + 3] = 7;
+    put_cell(&mut rec, 0, 0, [0, 0, 0]);
+    put_cell(&mut rec, 0, 1, [1, 0, 0]);
+    rec[BLOCKS + WAITING_SET + 1] = 1 << 2;
+    rec[BLOCKS + BARRING_SETS + 2 + 1] = 1 << 2;
     println!("busy: {}", damaged(&mut rec));
 }

@@ -1,7 +1,7 @@
 #!/bin/sh
-# Builds the host programs over the proved archives with warnings as errors, and runs them: the Rust package's tests, both policies in Rust and C
-# (C also with sanitizers), and the traces against their stored outputs. Needs gcc and cargo, and in target/staticlib what `rt staticlib engine` and
-# `rt staticlib wire` build.
+# Builds the host programs over the proved archives with warnings as errors, and runs them: the Rust package's tests, the headers, the views of a
+# record in C and Rust, both policies in Rust and C (C also with sanitizers), and the traces against their stored outputs. Needs gcc and cargo, and
+# in target/staticlib what `rt staticlib engine` and `rt staticlib wire` build. With g++ the headers are tried in C++ too.
 set -eu
 cd "$(dirname "$0")/.."
 
@@ -43,9 +43,53 @@ quietly doc cargo_at doc --locked --offline --no-deps
 built=target/cargo/debug
 echo "hosts: $(awk '/^test result: ok/ { n += $4 } END { print n }' "$out/test.log") tests of the Rust package passed"
 
-flags="-std=c99 -Wall -Wextra -Wpedantic -Werror -Iinclude"
+warnings="-Wall -Wextra -Wpedantic -Werror"
+flags="-std=c99 $warnings -Iinclude"
+sanitized="-O1 -g -fsanitize=address,undefined -fno-sanitize-recover=all"
+
+# Each header by itself, and the accessors.
+try_headers()
+{
+    for header in include/*.h; do
+        echo "#include \"$(basename "$header")\"" | "$@" $warnings -Iinclude -fsyntax-only -
+    done
+    "$@" $warnings -Iinclude tests/accessors.c -o "$out/accessors"
+    "$out/accessors"
+}
+try_headers gcc -std=c99 -x c
+languages=C
+if command -v g++ >/dev/null; then
+    try_headers g++ -std=c++11 -x c++
+    languages="C and C++"
+fi
+echo "hosts: the headers in $languages; each accessor evaluates its argument once"
+
+# The view in C beside the rules of document 01, then the view in Rust beside that in C.
+gcc $flags -O2 tests/view_compare.c $archives -o "$out/view"
+gcc $flags $sanitized tests/view_compare.c $archives -o "$out/view.sanitized"
+quietly view_sanitized "$out/view.sanitized"
+echo "hosts: $(cat "$out/view_sanitized.log")"
+"$out/view" "$out/view.records" >"$out/view_c.figures"
+"$built/examples/figures" "$out/view.records" >"$out/view_rust.figures"
+cmp "$out/view_c.figures" "$out/view_rust.figures"
+echo "hosts: the view in Rust agrees on $(grep -c '^record' "$out/view_c.figures") records"
+# Would a wrong number be found? Each one of the layout, larger by one, must be.
+wrong=$out/wrong
+mkdir -p "$wrong"
+cp include/*.h "$wrong"
+numbers=$(awk '$1 == "#define" && $2 ~ /^HYL_VIEW_/ && $3 ~ /^[0-9]+$/ { print $2 }' include/hyaloneth_view.h)
+for number in $numbers; do
+    awk -v number="$number" '$1 == "#define" && $2 == number { $3++ } { print }' include/hyaloneth_view.h >"$wrong/hyaloneth_view.h"
+    gcc -std=c99 "-I$wrong" tests/view_compare.c $archives -o "$wrong/view"
+    if "$wrong/view" >"$wrong/log" 2>&1; then
+        echo "failed: with a wrong $number the view still agrees"
+        exit 1
+    fi
+done
+echo "hosts: each of the $(echo "$numbers" | wc -l) numbers of the layout in the view, changed, is found"
+
 gcc $flags -O2 hosts/c/policy.c $archives -o "$out/policy"
-gcc $flags -O1 -g -fsanitize=address,undefined -fno-sanitize-recover=all hosts/c/policy.c $archives -o "$out/policy.sanitized"
+gcc $flags $sanitized hosts/c/policy.c $archives -o "$out/policy.sanitized"
 for seed in 1 2 3; do
     quietly "policy_rust_$seed" "$built/examples/policy" $seed
     quietly "policy_c_$seed" "$out/policy" $seed

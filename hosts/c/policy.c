@@ -7,6 +7,7 @@
 #include <stdlib.h>
 #include <string.h>
 #include "hyaloneth.h"
+#include "hyaloneth_view.h"
 
 #define ROUNDS 3000
 #define FOOLISH_RACKS 120
@@ -62,47 +63,20 @@ static void close_rack(void)
     rec = NULL;
 }
 
-/* The record's figures, by docs/RECORD.md. */
+/* The figures that the policy goes by. */
 static uint32_t in_flight(void)
 {
-    return rec[3];
-}
-
-static const uint8_t *message(uint32_t position)
-{
-    return rec + 4 + 38 * position;
-}
-
-static const uint8_t *block_at(uint32_t block)
-{
-    return rec + 2436 + 592 * block;
+    return hyl_view_in_flight(rec);
 }
 
 static uint32_t plain(uint32_t component, uint32_t block)
 {
-    return block_at(block)[35 * component];
-}
-
-static uint32_t held(uint32_t component, uint32_t block)
-{
-    return plain(component, block) + block_at(block)[35 * component + 1];
+    return hyl_view_plain(rec, component, block);
 }
 
 static bool valid(uint32_t component, uint32_t block)
 {
-    return block_at(block)[35 * component + 2] != 0;
-}
-
-/* The active board: the lowest of the waiting ones, 0 for none. */
-static uint32_t active(uint32_t block)
-{
-    uint32_t waiting = (uint32_t)block_at(block)[560] << 8 | block_at(block)[561];
-    uint32_t board;
-
-    for (board = 1; board <= rec[0]; board++)
-        if (waiting >> board & 1)
-            return board;
-    return 0;
+    return hyl_view_valid(rec, component, block) != 0;
 }
 
 /* A memory without components, tokens or messages: what the loads of a coherent rack give. */
@@ -193,8 +167,8 @@ static void fill(uint32_t board, uint32_t block)
     uint32_t component;
 
     deliver_all();
-    for (component = 0; component <= rec[0]; component++)
-        if (component != board && held(component, block) > 0)
+    for (component = 0; component <= hyl_view_boards(rec); component++)
+        if (component != board && hyl_view_held(rec, component, block) > 0)
             must(step, hyl_wire_write_forward(step, sizeof step, 0, component, block));
     deliver_all();
 }
@@ -203,11 +177,11 @@ static void fill(uint32_t board, uint32_t block)
 static void write_turn(uint32_t block)
 {
     uint8_t step[STEP_ROOM];
-    uint32_t boards = rec[0], board, word, times;
+    uint32_t boards = hyl_view_boards(rec), board, word, times;
 
     for (times = draw(3) + 1; times > 0; times--)
         raise_claim(1 + draw(boards), block);
-    while ((board = active(block)) != 0) {
+    while ((board = hyl_view_active(rec, block)) != 0) {
         fill(board, block);
         for (times = draw(3) + 1; times > 0; times--) {
             word = draw(8);
@@ -226,7 +200,7 @@ static uint32_t source(uint32_t reader, uint32_t block)
 {
     uint32_t component, best = UINT32_MAX;
 
-    for (component = 0; component <= rec[0]; component++)
+    for (component = 0; component <= hyl_view_boards(rec); component++)
         if (component != reader && valid(component, block) && (best == UINT32_MAX || plain(component, block) > plain(best, block)))
             best = component;
     return best;
@@ -236,7 +210,7 @@ static uint32_t source(uint32_t reader, uint32_t block)
 static void read_turn(uint32_t block)
 {
     uint8_t step[STEP_ROOM];
-    uint32_t reader = 1 + draw(rec[0]), from, times;
+    uint32_t reader = 1 + draw(hyl_view_boards(rec)), from, times;
 
     if (!valid(reader, block)) {
         if (source(reader, block) == UINT32_MAX)
@@ -360,18 +334,18 @@ static unsigned wrong_totals(void)
     unsigned wrong = 0;
     uint32_t block, component, i;
 
-    for (block = 0; block < rec[1]; block++) {
+    for (block = 0; block < hyl_view_blocks(rec); block++) {
         uint32_t tokens = 0, owners = 0;
-        for (component = 0; component <= rec[0]; component++) {
-            tokens += held(component, block);
-            owners += held(component, block) - plain(component, block);
+        for (component = 0; component <= hyl_view_boards(rec); component++) {
+            tokens += hyl_view_held(rec, component, block);
+            owners += hyl_view_owner(rec, component, block);
         }
         for (i = 0; i < in_flight(); i++)
-            if (message(i)[2] == block) {
-                tokens += (uint32_t)message(i)[3] + message(i)[4];
-                owners += message(i)[4];
+            if (hyl_view_message_block(rec, i) == block) {
+                tokens += hyl_view_message_plain(rec, i) + hyl_view_message_owner(rec, i);
+                owners += hyl_view_message_owner(rec, i);
             }
-        if (tokens != rec[2] || owners != 1) {
+        if (tokens != hyl_view_tokens(rec) || owners != 1) {
             wrong++;
             printf("WRONG: block %" PRIu32 " has %" PRIu32 " tokens, %" PRIu32 " owners\n", block, tokens, owners);
         }

@@ -28,5 +28,5 @@ extern "C" {
     ) -> u64;
 }
 
-/// How many numbers tell a step: the kind byte, then a place for each tag.
+/// How many numbers encode a step: the kind byte, then a place for each tag.
 pub const PLACES: usize = 12;

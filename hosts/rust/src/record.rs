@@ -1,5 +1,6 @@
 use crate::answer::{self, Answer, Letter, Reply};
 use crate::ffi;
+use crate::view;
 use crate::{Refusal, Step, View};
 
 /// A rack's record at the front of a lent buffer.
@@ -28,7 +29,7 @@ pub struct Record<'a> {
 
 impl<'a> Record<'a> {
     /// The longest record, in bytes: that of 32 blocks.
-    pub const LONGEST: usize = 21_380;
+    pub const LONGEST: usize = view::block_at(32);
 
     /// How many bytes the record of a rack of `blocks` blocks takes.
     ///
@@ -37,8 +38,9 @@ impl<'a> Record<'a> {
     /// ```
     /// use hyaloneth::{Record, Refusal};
     ///
-    /// assert_eq!(Record::len_for(1), Ok(3_028));
-    /// assert_eq!(Record::len_for(32), Ok(Record::LONGEST));
+    /// assert_eq!(Record::len_for(1), Ok(3_224));
+    /// assert_eq!(Record::len_for(32), Ok(22_816));
+    /// assert_eq!(Record::LONGEST, 22_816);
     /// assert_eq!(Record::len_for(33), Err(Refusal::Size));
     /// ```
     pub fn len_for(blocks: u32) -> Result<usize, Refusal> {
@@ -55,7 +57,7 @@ impl<'a> Record<'a> {
     /// ```
     /// use hyaloneth::{Record, Refusal};
     ///
-    /// let mut buffer = vec![0; 3_027];
+    /// let mut buffer = vec![0; 3_223];
     /// assert_eq!(Record::open(&mut buffer, 2, 1, 3).err(), Some(Refusal::ShortBuffer));
     /// buffer.push(0);
     /// assert!(Record::open(&mut buffer, 2, 1, 3).is_ok());

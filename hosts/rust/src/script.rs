@@ -175,7 +175,7 @@ pub fn disassemble(bytes: &[u8]) -> String {
     script
 }
 
-/// The input that a script tells: bytes N, B, T, then step records.
+/// The input of a script: bytes N, B, T, then step records.
 ///
 /// The error names the first line that is wrong.
 pub fn assemble(script: &str) -> Result<Vec<u8>, ScriptError> {

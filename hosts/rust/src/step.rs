@@ -166,7 +166,7 @@ impl Step {
         n
     }
 
-    /// The step that numbers of the proved reader tell.
+    /// The step that numbers of the proved reader encode.
     fn from_numbers(n: &[u32; PLACES]) -> Step {
         let (component, block) = (n[1], n[2]);
         match n[0] {

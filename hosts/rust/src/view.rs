@@ -109,12 +109,48 @@ impl fmt::Display for Boards {
     }
 }
 
-const MESH: usize = 4;
-const MESSAGE: usize = 38;
-const BLOCKS: usize = 2_436;
-const BLOCK: usize = 592;
-const CELL: usize = 35;
-const SETS: usize = 560;
+// The layout of docs/RECORD.md: every offset and size that this package knows. Numbers are unsigned,
+// the high byte first; a figure takes one byte unless said.
+
+// In the header: N, B, T, and how many messages are in flight.
+const BOARD_COUNT: usize = 0;
+const BLOCK_COUNT: usize = 1;
+const TOKEN_COUNT: usize = 2;
+const MESSAGE_COUNT: usize = 3;
+
+// The messages, the oldest first; then the figures in one.
+const MESSAGES: usize = 32;
+const MESSAGE_SIZE: usize = 40;
+const MESSAGE_SENDER: usize = 0;
+const MESSAGE_TARGET: usize = 1;
+const MESSAGE_BLOCK: usize = 2;
+const MESSAGE_PLAIN: usize = 3;
+const MESSAGE_OWNER: usize = 4;
+const MESSAGE_DATA: usize = 5;
+const MESSAGE_WORDS: usize = 8;
+
+// The blocks; then, in one, where a figure of component 0 stands. Those of the next components
+// follow.
+const BLOCKS: usize = 2_592;
+const BLOCK_SIZE: usize = 632;
+const PLAIN: usize = 0;
+const OWNER: usize = 16;
+const VALID: usize = 32;
+const BARRING_SETS: usize = 80;
+const WORDS: usize = 120;
+
+// In a block, its waiting set.
+const WAITING_SET: usize = 112;
+
+// The bytes of a set, of a word, and of the eight words of a component.
+const SET_SIZE: usize = 2;
+const WORD_SIZE: usize = 4;
+const WORDS_SIZE: usize = 32;
+
+/// Where a block starts, which is also the length of a record of so many blocks.
+pub(crate) const fn block_at(block: usize) -> usize {
+    BLOCKS + BLOCK_SIZE * block
+}
 
 impl<'a> View<'a> {
     /// The figures of the record at the front of a buffer. Refused with [`Refusal::Unsound`] where
@@ -127,23 +163,28 @@ impl<'a> View<'a> {
 
     /// N, how many boards there are.
     pub fn boards(&self) -> u32 {
-        u32::from(self.record[0])
+        self.byte(BOARD_COUNT)
     }
 
     /// B, how many blocks there are.
     pub fn blocks(&self) -> u32 {
-        u32::from(self.record[1])
+        self.byte(BLOCK_COUNT)
     }
 
     /// T, how many tokens each block has.
     pub fn tokens(&self) -> u32 {
-        u32::from(self.record[2])
+        self.byte(TOKEN_COUNT)
+    }
+
+    /// How many bytes the record takes. The buffer may be longer.
+    pub fn record_len(&self) -> usize {
+        block_at(self.blocks() as usize)
     }
 
     /// The messages in flight, oldest first.
     pub fn messages(&self) -> Messages<'a> {
-        let end = MESH + MESSAGE * usize::from(self.record[3]);
-        Messages { bytes: self.record[MESH..end].chunks_exact(MESSAGE) }
+        let len = MESSAGE_SIZE * self.byte(MESSAGE_COUNT) as usize;
+        Messages { bytes: self.record[MESSAGES..][..len].chunks_exact(MESSAGE_SIZE) }
     }
 
     /// What a component has of a block, or nothing off the rack.
@@ -151,13 +192,12 @@ impl<'a> View<'a> {
         if component > self.boards() {
             return None;
         }
-        let at = self.block_at(block)? + CELL * component as usize;
-        let cell = &self.record[at..at + CELL];
+        let (at, component) = (self.block_at(block)?, component as usize);
         Some(Cell {
-            plain: u32::from(cell[0]),
-            owner: cell[1] != 0,
-            valid: cell[2] != 0,
-            words: words(&cell[3..]),
+            plain: self.byte(at + PLAIN + component),
+            owner: self.byte(at + OWNER + component) != 0,
+            valid: self.byte(at + VALID + component) != 0,
+            words: words(&self.record[at + WORDS + WORDS_SIZE * component..]),
         })
     }
 
@@ -168,7 +208,7 @@ impl<'a> View<'a> {
 
     /// The waiting set of a block, or nothing off the rack.
     pub fn waiting(&self, block: u32) -> Option<Boards> {
-        Some(self.set(self.block_at(block)? + SETS))
+        Some(self.set(self.block_at(block)? + WAITING_SET))
     }
 
     /// The barring set of a board for a block, or nothing at home and off the rack.
@@ -176,7 +216,7 @@ impl<'a> View<'a> {
         if board == 0 || board > self.boards() {
             return None;
         }
-        Some(self.set(self.block_at(block)? + SETS + 2 * board as usize))
+        Some(self.set(self.block_at(block)? + BARRING_SETS + SET_SIZE * board as usize))
     }
 
     /// The active board of a block: the lowest of the waiting ones.
@@ -185,7 +225,11 @@ impl<'a> View<'a> {
     }
 
     fn block_at(&self, block: u32) -> Option<usize> {
-        (block < self.blocks()).then(|| BLOCKS + BLOCK * block as usize)
+        (block < self.blocks()).then(|| block_at(block as usize))
+    }
+
+    fn byte(&self, at: usize) -> u32 {
+        u32::from(self.record[at])
     }
 
     fn set(&self, at: usize) -> Boards {
@@ -204,14 +248,15 @@ impl Iterator for Messages<'_> {
 
     fn next(&mut self) -> Option<Message> {
         let message = self.bytes.next()?;
+        let figure = |at: usize| u32::from(message[at]);
         Some(Message {
-            sender: u32::from(message[0]),
-            target: u32::from(message[1]),
-            block: u32::from(message[2]),
-            plain: u32::from(message[3]),
-            owner: message[4] != 0,
-            data: message[5] != 0,
-            words: words(&message[6..]),
+            sender: figure(MESSAGE_SENDER),
+            target: figure(MESSAGE_TARGET),
+            block: figure(MESSAGE_BLOCK),
+            plain: figure(MESSAGE_PLAIN),
+            owner: figure(MESSAGE_OWNER) != 0,
+            data: figure(MESSAGE_DATA) != 0,
+            words: words(&message[MESSAGE_WORDS..]),
         })
     }
 
@@ -222,9 +267,89 @@ impl Iterator for Messages<'_> {
 
 impl ExactSizeIterator for Messages<'_> {}
 
-/// Eight words, the high byte first.
+/// The eight words at the front of these bytes.
 fn words(bytes: &[u8]) -> [u32; 8] {
     std::array::from_fn(|w| {
-        u32::from_be_bytes([bytes[4 * w], bytes[4 * w + 1], bytes[4 * w + 2], bytes[4 * w + 3]])
+        let word = &bytes[WORD_SIZE * w..][..WORD_SIZE];
+        word.iter().fold(0, |sum, &byte| sum << 8 | u32::from(byte))
     })
+}
+
+#[cfg(test)]
+mod tests {
+    use super::*;
+    use crate::{Record, Reply, Step};
+
+    const FILL: u8 = 0xa5;
+
+    /// A rack of two boards, of which board 1 has the whole block.
+    fn record() -> Vec<u8> {
+        let mut buffer = vec![FILL; block_at(1)];
+        let mut rack = Record::open(&mut buffer, 2, 1, 3).unwrap();
+        let whole =
+            Step::Send { component: 0, block: 0, target: 1, plain: 2, owner: true, data: true };
+        assert_eq!(rack.step(&whole), Ok(Reply::Done));
+        assert_eq!(rack.step(&Step::Deliver { position: 0 }), Ok(Reply::Done));
+        buffer
+    }
+
+    #[test]
+    fn damaged_figures_are_refused() {
+        let block = block_at(0);
+        let above = 3;
+        let figures = [
+            BOARD_COUNT,
+            BLOCK_COUNT,
+            TOKEN_COUNT,
+            MESSAGE_COUNT,
+            block + PLAIN,
+            block + OWNER,
+            block + VALID,
+            block + WAITING_SET,
+            block + BARRING_SETS + SET_SIZE,
+            // What is 0 in every sound record: figures above N, and home's place among the sets.
+            block + PLAIN + above,
+            block + OWNER + above,
+            block + VALID + above,
+            block + BARRING_SETS + SET_SIZE * above,
+            block + BARRING_SETS,
+        ];
+        for at in figures {
+            let mut damaged = record();
+            damaged[at] = 0x7f;
+            assert_eq!(View::of(&damaged).err(), Some(Refusal::Unsound), "{at}");
+            let before = damaged.clone();
+            let deliver = Step::Deliver { position: 0 };
+            assert_eq!(Record::over(&mut damaged).step(&deliver), Err(Refusal::Unsound), "{at}");
+            assert_eq!(damaged, before, "{at}");
+        }
+    }
+
+    #[test]
+    fn room_is_neither_read_nor_changed() {
+        const PLACES: usize = 16;
+        let block = block_at(0);
+        let room: Vec<usize> = (MESSAGE_COUNT + 1..MESSAGES)
+            .chain(block + VALID + PLACES..block + BARRING_SETS)
+            .chain(block + WAITING_SET + SET_SIZE..block + WORDS)
+            .chain(block + WORDS + WORDS_SIZE * 3..block_at(1))
+            .collect();
+        let mut buffer = record();
+        assert!(room.iter().all(|&at| buffer[at] == FILL), "the opening writes no room");
+        for &at in &room {
+            buffer[at] = at as u8;
+        }
+        let mut rack = Record::over(&mut buffer);
+        for step in [
+            Step::Store { component: 1, block: 0, word: 7, value: u32::MAX },
+            Step::Raise { component: 2, block: 0 },
+            Step::Forward { component: 1, block: 0 },
+            Step::Deliver { position: 0 },
+            Step::Lower { component: 2, block: 0 },
+        ] {
+            assert_eq!(rack.step(&step), Ok(Reply::Done), "{step}");
+        }
+        assert_eq!(rack.view().unwrap().cell(2, 0).map(|cell| cell.words[7]), Some(u32::MAX));
+        assert!(room.iter().all(|&at| buffer[at] == at as u8), "no step writes room");
+    }
 }

@@ -360,19 +360,7 @@ fn bytes_past_the_record_stay() {
 }
 
 #[test]
-fn a_damaged_record_is_refused() {
-    let rack = w2();
-    // Sizes, count in flight, home's plain count, owner and valid marks, a claim of home.
-    for at in [0, 1, 2, 3, 2436, 2437, 2438, 2436 + 561] {
-        let mut damaged = Rack(rack.0.clone());
-        damaged.0[at] = 0x7f;
-        damaged.refused(load(1), Unsound);
-        assert_eq!(damaged.letter(1), Err(Unsound));
-    }
-}
-
-#[test]
-fn the_view_reads_the_written_layout() {
+fn the_view_has_the_figures_of_a_rack() {
     let mut rack = Rack::of(3, 2, 9);
     let block = 1;
     rack.done(Send { component: 0, block, target: 3, plain: 8, owner: true, data: true });

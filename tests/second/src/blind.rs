@@ -5,6 +5,9 @@ use std::collections::BTreeSet;
 
 type Words = [u32; 8];
 
+/// A message as it is shown: sender, target, block, plain, owner, data, words.
+type Shown = (u32, u32, u32, u32, bool, bool, Words);
+
 /// "The rack": what one component has of one block.
 #[derive(Clone, Debug, Default, PartialEq)]
 struct Cell {
@@ -235,8 +238,8 @@ impl Rack {
         (cell.plain, cell.owner, cell.valid, cell.words)
     }
 
-    /// The messages in flight, oldest first: sender, target, block, plain, owner, data, words.
-    pub fn mesh(&self) -> Vec<(u32, u32, u32, u32, bool, bool, [u32; 8])> {
+    /// The messages in flight, oldest first.
+    pub fn mesh(&self) -> Vec<Shown> {
         let view = |m: &Message| (m.sender as u32, m.target as u32, m.block as u32, m.plain, m.owner, m.data, m.words);
         self.mesh.iter().map(view).collect()
     }

@@ -1,7 +1,10 @@
 //! One call on the bytes of a buffer, made by the model and by each engine, and compared: the result, and every byte that was lent.
+//!
+//! An engine with a record of its own (`tuned`) gets the rack in its own bytes; its results and the
+//! figures that it leaves are compared.
 
 use crate::model::{self, Rack, Refusal};
-use crate::{engine, record, reply, tuned};
+use crate::{best, engine, record, reply, tuned};
 use std::fmt::Write;
 
 pub enum Call<'a> {
@@ -29,8 +32,24 @@ impl From<u64> for Given {
 /// What the places for replies hold before a run.
 const BLANK: u64 = 0x5a5a_5a5a_5a5a_5a5a;
 
+/// A layout of the record: how long it is for so many blocks, and a rack written over the front of a buffer.
+pub struct Layout {
+    pub length: fn(usize) -> usize,
+    pub encode: fn(&Rack, &mut [u8]),
+}
+
+/// The record's, and the tuned engine's own.
+pub static LAYOUTS: [Layout; 2] =
+    [Layout { length: record::length, encode: record::encode }, Layout { length: tuned::length, encode: tuned::encode }];
+
+/// The record's in `LAYOUTS`.
+pub const RECORD: usize = 0;
+const TUNED: usize = 1;
+
 pub struct Engine {
     pub name: &'static str,
+    /// Its layout in `LAYOUTS`.
+    pub layout: usize,
     pub record_len: fn(u32) -> u64,
     pub open: fn(&mut [u8], u32, u32, u32) -> u64,
     pub step: fn(&mut [u8], &[u8]) -> u64,
@@ -38,16 +57,34 @@ pub struct Engine {
     pub letter: fn(&[u8], u32, u32) -> u64,
 }
 
-pub static ENGINES: [Engine; 2] = [
+pub static ENGINES: [Engine; 3] = [
     Engine {
         name: "engine",
+        layout: RECORD,
         record_len: engine::record_len,
         open: engine::open,
         step: engine::step,
         run: engine::run,
         letter: engine::letter,
     },
-    Engine { name: "tuned", record_len: tuned::record_len, open: tuned::open, step: tuned::step, run: tuned::run, letter: tuned::letter },
+    Engine {
+        name: "best",
+        layout: RECORD,
+        record_len: best::record_len,
+        open: best::open,
+        step: best::step,
+        run: best::run,
+        letter: best::letter,
+    },
+    Engine {
+        name: "tuned",
+        layout: TUNED,
+        record_len: tuned::record_len,
+        open: tuned::open,
+        step: tuned::step,
+        run: tuned::run,
+        letter: tuned::letter,
+    },
 ];
 
 impl Engine {
@@ -71,31 +108,36 @@ pub fn sound_rack(buffer: &[u8]) -> Result<Rack, Refusal> {
     record::decode(buffer).filter(Rack::sound).ok_or(Refusal::Unsound)
 }
 
-/// The call by document 01: 1, then 2, then the rules on the rack; an accepted step's rack is written over the buffer.
-pub fn by_model(buffer: &mut [u8], call: &Call) -> Given {
+/// The call by document 01: 1, then 2, then the rules on the rack; an accepted step's rack is written over the buffer. `rack` is what the buffer
+/// was decoded to, and afterwards what it holds.
+fn by_model(buffer: &mut [u8], rack: &mut Option<Rack>, call: &Call) -> Given {
     match *call {
         Call::Length(blocks @ 1..=32) => reply::done(record::length(blocks as usize) as u32).into(),
         Call::Length(_) => reply::refused(Refusal::Size).into(),
         Call::Open(boards, blocks, tokens) => match Rack::open(boards, blocks, tokens) {
             Err(refusal) => reply::refused(refusal).into(),
             Ok(_) if buffer.len() < record::length(blocks as usize) => reply::refused(Refusal::ShortBuffer).into(),
-            Ok(rack) => {
-                record::encode(&rack, buffer);
+            Ok(opened) => {
+                record::encode(&opened, buffer);
+                *rack = Some(opened);
                 reply::done(0).into()
             }
         },
         Call::Step(bytes) => {
-            let mut rack = None;
-            step(buffer, &mut rack, bytes).into()
+            let mut sound = rack.as_mut().filter(|rack| rack.sound());
+            step(buffer, &mut sound, bytes).into()
         }
-        Call::Letter(component, block) => reply::of_letter(sound_rack(buffer).and_then(|rack| rack.letter(component, block))).into(),
+        Call::Letter(component, block) => {
+            let sound = rack.as_ref().filter(|rack| rack.sound()).ok_or(Refusal::Unsound);
+            reply::of_letter(sound.and_then(|rack| rack.letter(component, block))).into()
+        }
         Call::Run { list, mut at, places } => {
             let mut replies = vec![BLANK; places];
-            let mut rack = None;
+            let mut sound = rack.as_mut().filter(|rack| rack.sound());
             let mut made = 0;
             while made < places && at < list.len() {
                 let (bytes, _) = model::cut(&list[at..]);
-                replies[made] = step(buffer, &mut rack, bytes);
+                replies[made] = step(buffer, &mut sound, bytes);
                 at += bytes.len();
                 made += 1;
             }
@@ -104,10 +146,10 @@ pub fn by_model(buffer: &mut [u8], call: &Call) -> Given {
     }
 }
 
-/// A step on the bytes; `rack` keeps what they were decoded to.
-fn step(buffer: &mut [u8], rack: &mut Option<Result<Rack, Refusal>>, bytes: &[u8]) -> u64 {
+/// A step on the bytes and on the rack that they hold, if they are sound.
+fn step(buffer: &mut [u8], sound: &mut Option<&mut Rack>, bytes: &[u8]) -> u64 {
     let given = model::read(bytes).and_then(|step| {
-        let rack = rack.get_or_insert_with(|| sound_rack(buffer)).as_mut().map_err(|refusal| *refusal)?;
+        let rack = sound.as_mut().ok_or(Refusal::Unsound)?;
         let answer = rack.step(step)?;
         record::encode(rack, buffer);
         Ok(answer)
@@ -115,21 +157,29 @@ fn step(buffer: &mut [u8], rack: &mut Option<Result<Rack, Refusal>>, bytes: &[u8
     reply::of_reply(given)
 }
 
-/// Compares calls; its two buffers are used again and again.
+/// Compares calls; its buffers are used again and again.
 #[derive(Default)]
 pub struct Comparison {
     /// The buffer after the last call, by the model.
     pub after: Vec<u8>,
     got: Vec<u8>,
+    /// Those of an engine with a layout of its own.
+    own_after: Vec<u8>,
+    own_got: Vec<u8>,
 }
 
 impl Comparison {
-    /// What the model and both engines give alike, or the difference as a case for `--replay`.
+    /// What the model and all engines give alike, or the difference as a case for `--replay`.
     pub fn call(&mut self, before: &[u8], call: &Call) -> Result<Given, String> {
         self.after.clear();
         self.after.extend(before);
-        let want = by_model(&mut self.after, call);
-        for engine in &ENGINES {
+        let mut rack = match call {
+            Call::Length(_) | Call::Open(..) => None,
+            _ => record::decode(before),
+        };
+        let comparable = self.lend_own(before, &rack, call);
+        let want = by_model(&mut self.after, &mut rack, call);
+        for engine in ENGINES.iter().filter(|engine| engine.layout == RECORD) {
             self.got.clear();
             self.got.extend(before);
             let given = engine.call(&mut self.got, call);
@@ -138,7 +188,40 @@ impl Comparison {
                 return Err(format!("{what}\nbytes {}\n{}", hex(before), call.text()));
             }
         }
+        if comparable {
+            for engine in ENGINES.iter().filter(|engine| engine.layout == TUNED) {
+                let given = engine.call(&mut self.own_got, call);
+                // The figures are the model's where writing the model's rack over them changes nothing; after a refused opening there is no rack.
+                if let Some(rack) = &rack {
+                    self.own_after.clone_from(&self.own_got);
+                    (LAYOUTS[TUNED].encode)(rack, &mut self.own_after);
+                }
+                if given != want || self.own_got != self.own_after {
+                    let what = difference(engine.name, &want, &given, &self.own_after, &self.own_got);
+                    return Err(format!("{what} (in its own layout)\nbytes {}\n{}", hex(before), call.text()));
+                }
+            }
+        }
         Ok(want)
+    }
+
+    /// Puts the rack into the bytes of the other layout, in a buffer that has as many bytes to spare. Bytes that no rack can be decoded from say
+    /// nothing in another layout, and a length is each layout's own: false.
+    fn lend_own(&mut self, before: &[u8], rack: &Option<Rack>, call: &Call) -> bool {
+        let blocks = match (call, rack) {
+            (Call::Open(_, blocks, _), _) => (*blocks).min(32) as usize,
+            (_, Some(rack)) => rack.blocks.len(),
+            _ => return false,
+        };
+        let needed = (LAYOUTS[TUNED].length)(blocks);
+        let length = (needed + before.len()).saturating_sub(record::length(blocks));
+        self.own_after.clear();
+        self.own_after.resize(length, 0xa5);
+        if let Some(rack) = rack {
+            (LAYOUTS[TUNED].encode)(rack, &mut self.own_after);
+        }
+        self.own_got.clone_from(&self.own_after);
+        true
     }
 }
 

@@ -1,24 +1,11 @@
 //! The proved engine and the proved reader and writer, by include/hyaloneth.h and include/hyaloneth_wire.h.
 
-mod c {
-    extern "C" {
-        pub fn hyl_record_len(blocks: u32) -> u64;
-        pub fn hyl_open(rec: *mut u8, rec_len: usize, boards: u32, blocks: u32, tokens: u32) -> u64;
-        pub fn hyl_step(rec: *mut u8, rec_len: usize, step: *const u8, step_len: usize) -> u64;
-        pub fn hyl_run(
-            rec: *mut u8,
-            rec_len: usize,
-            list: *const u8,
-            list_len: usize,
-            at: *mut usize,
-            replies: *mut u64,
-            replies_len: usize,
-        ) -> usize;
-        pub fn hyl_letter(rec: *const u8, rec_len: usize, component: u32, block: u32) -> u64;
-        pub fn hyl_wire_read(bytes: *const u8, bytes_len: usize, out: *mut u32, out_len: usize) -> u64;
-        pub fn hyl_wire_write(numbers: *const u32, numbers_len: usize, out: *mut u8, out_len: usize, at: usize) -> u64;
-    }
-}
+/// The declarations that the hosts have, in the hosts' format.
+#[rustfmt::skip]
+#[path = "../../../hosts/rust/src/ffi.rs"]
+mod c;
+
+pub use c::PLACES;
 
 // SAFETY, for all of them: a slice's pointer is not null, aligned, and good for its length; exclusive borrows overlap nothing else.
 
@@ -48,4 +35,36 @@ pub fn wire_read(bytes: &[u8], out: &mut [u32]) -> u64 {
 
 pub fn wire_write(numbers: &[u32], out: &mut [u8], at: usize) -> u64 {
     unsafe { c::hyl_wire_write(numbers.as_ptr(), numbers.len(), out.as_mut_ptr(), out.len(), at) }
+}
+
+/// Another archive of the engine, which the benchmark measures beside this one: see build.rs.
+#[cfg(other)]
+pub mod other {
+    mod c {
+        extern "C" {
+            pub fn other_hyl_record_len(blocks: u32) -> u64;
+            pub fn other_hyl_step(rec: *mut u8, rec_len: usize, step: *const u8, step_len: usize) -> u64;
+            pub fn other_hyl_run(
+                rec: *mut u8,
+                rec_len: usize,
+                list: *const u8,
+                list_len: usize,
+                at: *mut usize,
+                replies: *mut u64,
+                replies_len: usize,
+            ) -> usize;
+        }
+    }
+
+    pub fn record_len(blocks: u32) -> u64 {
+        unsafe { c::other_hyl_record_len(blocks) }
+    }
+
+    pub fn step(rec: &mut [u8], step: &[u8]) -> u64 {
+        unsafe { c::other_hyl_step(rec.as_mut_ptr(), rec.len(), step.as_ptr(), step.len()) }
+    }
+
+    pub fn run(rec: &mut [u8], list: &[u8], at: &mut usize, replies: &mut [u64]) -> usize {
+        unsafe { c::other_hyl_run(rec.as_mut_ptr(), rec.len(), list.as_ptr(), list.len(), at, replies.as_mut_ptr(), replies.len()) }
+    }
 }

@@ -1,10 +1,12 @@
 //! A second implementation of document 01 beside the proved engine: see README.md.
 
+pub mod best;
 pub mod blind;
 pub mod calls;
 pub mod coverage;
 pub mod engine;
 pub mod examples;
+pub mod layout;
 pub mod lists;
 pub mod model;
 pub mod numbers;

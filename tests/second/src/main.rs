@@ -1,5 +1,5 @@
-//! Compares the proved engine, and the tuned one of the benchmark, with the model: call by call, over lists, openings, torn steps, short buffers,
-//! damaged records, runs, and the reader and writer. It stops at the first difference with a case that `--replay` takes.
+//! Compares the proved engine, and the two engines of the benchmark, `tuned` and `best`, with the model: call by call, over lists, openings, torn
+//! steps, short buffers, damaged records, runs, and the reader and writer. It stops at the first difference with a case that `--replay` takes.
 
 mod compare;
 

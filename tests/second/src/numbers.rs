@@ -2,7 +2,7 @@
 
 use crate::model::{flag, Step};
 
-pub const PLACES: usize = 12;
+pub use crate::engine::PLACES;
 
 pub type Numbers = [u32; PLACES];
 
@@ -31,7 +31,7 @@ pub fn of_step(step: Step) -> Numbers {
     numbers
 }
 
-/// The step that numbers tell: none where a value is not one of its field, or a place that the kind does not have is not 0.
+/// The step that numbers encode: none where a value is not one of its field, or a place that the kind does not have is not 0.
 pub fn to_step(numbers: &[u32]) -> Option<Step> {
     let byte = |place: usize| numbers.get(place).and_then(|&number| u8::try_from(number).ok());
     let mark = |place: usize| byte(place).and_then(flag);

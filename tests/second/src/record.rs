@@ -1,59 +1,63 @@
-//! The record's bytes, by docs/RECORD.md: decoded to the model's rack, and a rack encoded over the bytes of a buffer.
+//! The record's bytes by its layout: decoded to the model's rack, and a rack encoded over the bytes of a buffer.
 
+use crate::layout::{
+    BARRING, BLOCKS_OFFSET, BLOCK_SIZE, COUNT, DATA, HEADER_SIZE, MESH_ROOM, MESSAGE_BLOCK, MESSAGE_OWNER, MESSAGE_PLAIN, MESSAGE_SIZE,
+    MESSAGE_WORDS, MESSAGE_ZEROS, OWNER, PLACES, PLAIN, SENDER, SET_SIZE, TARGET, VALID, WAITING, WORDS_SIZE,
+};
+use crate::layout::{BLOCKS, BOARDS, TOKENS, WORDS as WORDS_OFFSET};
 use crate::model::{flag, Block, Cell, Message, Rack, Words, WORDS};
 use std::collections::BTreeSet;
 
-const MESH: usize = 4;
-const MESSAGE: usize = 38;
-const MESSAGE_ROOM: usize = 64;
-const BLOCKS: usize = 2436;
-const BLOCK: usize = 592;
-const CELL: usize = 35;
-const CELL_ROOM: usize = 16;
-const SETS: usize = 560;
-
-/// How many bytes the record of a rack of so many blocks takes.
-pub fn length(blocks: usize) -> usize {
-    BLOCKS + BLOCK * blocks
-}
+pub use crate::layout::length;
 
 /// The rack that the front of the buffer has; none where the buffer is too short or a figure has a value that the layout does not. Whether the
 /// rack is sound is another question.
 pub fn decode(buffer: &[u8]) -> Option<Rack> {
-    let &[boards, blocks, tokens, count, ..] = buffer else {
-        return None;
-    };
-    let (components, count) = (usize::from(boards) + 1, usize::from(count));
-    if components > CELL_ROOM || count > MESSAGE_ROOM {
+    let header = buffer.get(..HEADER_SIZE)?;
+    let (components, count) = (usize::from(header[BOARDS]) + 1, usize::from(header[COUNT]));
+    if components > PLACES || count > MESH_ROOM {
         return None;
     }
-    let record = buffer.get(..length(blocks.into()))?;
-    let mesh = record[MESH..].chunks(MESSAGE).take(count).map(message).collect::<Option<_>>()?;
-    let blocks = record[BLOCKS..].chunks(BLOCK).map(|bytes| block(bytes, components)).collect::<Option<_>>()?;
-    Some(Rack { boards, tokens: tokens.into(), blocks, mesh })
+    let record = buffer.get(..length(header[BLOCKS].into()))?;
+    let mesh = record[HEADER_SIZE..].chunks(MESSAGE_SIZE).take(count).map(message).collect::<Option<_>>()?;
+    let blocks = record[BLOCKS_OFFSET..].chunks(BLOCK_SIZE).map(|bytes| block(bytes, components)).collect::<Option<_>>()?;
+    Some(Rack { boards: header[BOARDS], tokens: header[TOKENS].into(), blocks, mesh })
 }
 
 fn message(bytes: &[u8]) -> Option<Message> {
+    zero(&bytes[MESSAGE_ZEROS..MESSAGE_WORDS])?;
     Some(Message {
-        sender: bytes[0],
-        target: bytes[1],
-        block: bytes[2],
-        plain: bytes[3].into(),
-        owner: flag(bytes[4])?,
-        data: flag(bytes[5])?,
-        words: words(&bytes[6..]),
+        sender: bytes[SENDER],
+        target: bytes[TARGET],
+        block: bytes[MESSAGE_BLOCK],
+        plain: bytes[MESSAGE_PLAIN].into(),
+        owner: flag(bytes[MESSAGE_OWNER])?,
+        data: flag(bytes[DATA])?,
+        words: words(&bytes[MESSAGE_WORDS..]),
     })
 }
 
 fn block(bytes: &[u8], components: usize) -> Option<Block> {
-    let cells = bytes.chunks(CELL).take(components).map(cell).collect::<Option<_>>()?;
-    let mut sets = bytes[SETS..].chunks(2).take(components).map(set);
-    let waiting = sets.next()?;
-    Some(Block { cells, waiting, barring: (1..).zip(sets).collect() })
+    // What stands at places above N is 0; so is the set at place 0, since home has none.
+    for figure in [PLAIN, OWNER, VALID] {
+        zero(&bytes[figure + components..figure + PLACES])?;
+    }
+    let sets = &bytes[BARRING..BARRING + PLACES * SET_SIZE];
+    zero(&sets[..SET_SIZE])?;
+    zero(&sets[components * SET_SIZE..])?;
+    let cell = |c: usize| {
+        let words = words(&bytes[WORDS_OFFSET + WORDS_SIZE * c..]);
+        Some(Cell { plain: bytes[PLAIN + c].into(), owner: flag(bytes[OWNER + c])?, valid: flag(bytes[VALID + c])?, words })
+    };
+    Some(Block {
+        cells: (0..components).map(cell).collect::<Option<_>>()?,
+        waiting: set(&bytes[WAITING..]),
+        barring: (0..).zip(sets.chunks(SET_SIZE).take(components).map(set)).skip(1).collect(),
+    })
 }
 
-fn cell(bytes: &[u8]) -> Option<Cell> {
-    Some(Cell { plain: bytes[0].into(), owner: flag(bytes[1])?, valid: flag(bytes[2])?, words: words(&bytes[3..]) })
+fn zero(bytes: &[u8]) -> Option<()> {
+    bytes.iter().all(|&byte| byte == 0).then_some(())
 }
 
 fn words(bytes: &[u8]) -> Words {
@@ -69,30 +73,49 @@ fn set(bytes: &[u8]) -> BTreeSet<u8> {
     (0..16).filter(|board| bits >> board & 1 == 1).collect()
 }
 
-/// Writes the figures of a rack over the front of a buffer that has room for them. What is not read (cells and sets above N, messages past the
-/// count, bytes past the record) stays as it is.
+/// Writes the figures of a rack over the front of a buffer that has room for them. What is room (words of components above N, messages past the
+/// count, bytes between the figures and past the record) stays as it is.
 pub fn encode(rack: &Rack, buffer: &mut [u8]) {
     let record = &mut buffer[..length(rack.blocks.len())];
-    record[..MESH].copy_from_slice(&[rack.boards, rack.blocks.len() as u8, rack.tokens as u8, rack.mesh.len() as u8]);
-    for (bytes, m) in record[MESH..].chunks_mut(MESSAGE).zip(&rack.mesh) {
-        bytes[..6].copy_from_slice(&[m.sender, m.target, m.block, m.plain as u8, m.owner.into(), m.data.into()]);
-        put_words(&mut bytes[6..], &m.words);
+    record[BOARDS] = rack.boards;
+    record[BLOCKS] = rack.blocks.len() as u8;
+    record[TOKENS] = rack.tokens as u8;
+    record[COUNT] = rack.mesh.len() as u8;
+    for (bytes, m) in record[HEADER_SIZE..].chunks_mut(MESSAGE_SIZE).zip(&rack.mesh) {
+        bytes[SENDER] = m.sender;
+        bytes[TARGET] = m.target;
+        bytes[MESSAGE_BLOCK] = m.block;
+        bytes[MESSAGE_PLAIN] = m.plain as u8;
+        bytes[MESSAGE_OWNER] = m.owner.into();
+        bytes[DATA] = m.data.into();
+        bytes[MESSAGE_ZEROS..MESSAGE_WORDS].fill(0);
+        put_words(&mut bytes[MESSAGE_WORDS..], &m.words);
     }
-    for (bytes, block) in record[BLOCKS..].chunks_mut(BLOCK).zip(&rack.blocks) {
-        for (bytes, c) in bytes.chunks_mut(CELL).zip(&block.cells) {
-            bytes[..3].copy_from_slice(&[c.plain as u8, c.owner.into(), c.valid.into()]);
-            put_words(&mut bytes[3..], &c.words);
+    for (bytes, block) in record[BLOCKS_OFFSET..].chunks_mut(BLOCK_SIZE).zip(&rack.blocks) {
+        for figure in [PLAIN, OWNER, VALID] {
+            bytes[figure..figure + PLACES].fill(0);
         }
-        let sets = std::iter::once(&block.waiting).chain(block.barring.values());
-        for (bytes, set) in bytes[SETS..].chunks_mut(2).zip(sets) {
-            let bits = set.iter().fold(0u16, |bits, board| bits | 1 << board);
-            bytes.copy_from_slice(&bits.to_be_bytes());
+        for (c, cell) in block.cells.iter().enumerate() {
+            bytes[PLAIN + c] = cell.plain as u8;
+            bytes[OWNER + c] = cell.owner.into();
+            bytes[VALID + c] = cell.valid.into();
+            put_words(&mut bytes[WORDS_OFFSET + WORDS_SIZE * c..], &cell.words);
         }
+        bytes[BARRING..BARRING + PLACES * SET_SIZE].fill(0);
+        for (&board, set) in &block.barring {
+            put_set(&mut bytes[BARRING + SET_SIZE * usize::from(board)..], set);
+        }
+        put_set(&mut bytes[WAITING..], &block.waiting);
     }
 }
 
-fn put_words(bytes: &mut [u8], words: &Words) {
+pub(crate) fn put_words(bytes: &mut [u8], words: &Words) {
     for (at, word) in bytes.chunks_exact_mut(4).zip(words) {
         at.copy_from_slice(&word.to_be_bytes());
     }
+}
+
+pub(crate) fn put_set(bytes: &mut [u8], set: &BTreeSet<u8>) {
+    let bits = set.iter().fold(0u16, |bits, board| bits | 1 << board);
+    bytes[..SET_SIZE].copy_from_slice(&bits.to_be_bytes());
 }

@@ -1,7 +1,13 @@
-//! The yardstick of the benchmark: the same calls on the same record bytes with the same checks, as fast plain Rust.
+//! A yardstick of the benchmark: the same calls with the same checks, as fast plain Rust, on another record than the engine's.
+//!
+//! Its layout is the one the engine had before: a cell's figures and words side by side. It is known in this file alone (`encode` writes a rack in
+//! it), so the engine is compared with it by results and by the rack's figures. What it shows is what the layout is worth.
 //!
 //! Nothing is proved here. Soundness is one pass without branches on the record's contents: complaints are gathered in a number that is 0 for a
 //! sound record, and each block's tokens in one sum (plain tokens in the low half, owners in the high half).
+
+use crate::model::Rack;
+use crate::record;
 
 const MESH: usize = 4;
 const MESSAGE: usize = 38;
@@ -38,6 +44,33 @@ const NOT_WAITING: u64 = refused(17);
 const UNCLAIMED: u64 = refused(18);
 const SIZE: u64 = refused(19);
 const SHORT_BUFFER: u64 = refused(20);
+
+// ---- the record
+
+/// How many bytes the record of a rack of so many blocks takes.
+pub fn length(blocks: usize) -> usize {
+    BLOCKS + BLOCK * blocks
+}
+
+/// Writes the figures of a rack over the front of a buffer that has room for them.
+pub fn encode(rack: &Rack, buffer: &mut [u8]) {
+    let bytes = &mut buffer[..length(rack.blocks.len())];
+    bytes[..MESH].copy_from_slice(&[rack.boards, rack.blocks.len() as u8, rack.tokens as u8, rack.mesh.len() as u8]);
+    for (bytes, m) in bytes[MESH..].chunks_mut(MESSAGE).zip(&rack.mesh) {
+        bytes[..6].copy_from_slice(&[m.sender, m.target, m.block, m.plain as u8, m.owner.into(), m.data.into()]);
+        record::put_words(&mut bytes[6..], &m.words);
+    }
+    for (bytes, block) in bytes[BLOCKS..].chunks_mut(BLOCK).zip(&rack.blocks) {
+        for (bytes, c) in bytes.chunks_mut(CELL).zip(&block.cells) {
+            bytes[..3].copy_from_slice(&[c.plain as u8, c.owner.into(), c.valid.into()]);
+            record::put_words(&mut bytes[3..], &c.words);
+        }
+        let sets = std::iter::once(&block.waiting).chain(block.barring.values());
+        for (bytes, set) in bytes[SETS..].chunks_mut(2).zip(sets) {
+            record::put_set(bytes, set);
+        }
+    }
+}
 
 // ---- step records
 

@@ -2,6 +2,7 @@
 
 use super::{filled, Harness, Sizes, SPARE};
 use second::calls::{sound_rack, Call};
+use second::layout::{block_offset, BLOCKS, BOARDS, COUNT, HEADER_SIZE, MESSAGE_SIZE, TOKENS, WORDS};
 use second::model::Rack;
 use second::record;
 
@@ -63,8 +64,10 @@ impl Harness {
             if turn % 2 == 0 {
                 for _ in 0..1 + self.rng.below(2) {
                     let at = match self.rng.below(4) {
-                        0 => self.rng.below(4),
-                        1 => 4 + self.rng.below(38 * rack.mesh.len().max(1)),
+                        0 => self.rng.below(COUNT + 1),
+                        1 => HEADER_SIZE + self.rng.below(MESSAGE_SIZE * rack.mesh.len().max(1)),
+                        // what a block has in front of its words
+                        2 => block_offset(self.rng.below(rack.blocks.len())) + self.rng.below(WORDS),
                         _ => self.rng.below(buffer.len()),
                     };
                     damaged[at] = if self.rng.percent(50) { self.rng.byte() } else { damaged[at] ^ 1 << self.rng.below(8) };
@@ -157,7 +160,7 @@ impl Harness {
         let probes = self.probes(&rack);
         let mut long = filled(self.seed, record::length(255) + SPARE);
         long[..buffer.len()].copy_from_slice(&buffer);
-        for at in 0..4 {
+        for at in [BOARDS, BLOCKS, TOKENS, COUNT] {
             let kept = long[at];
             for value in 0..=255 {
                 long[at] = value;

@@ -1,7 +1,7 @@
 //! Lists from an opening on.
 
 use super::{filled, Harness, Sizes, RACKS, SPARE};
-use second::calls::{byte_difference, hex, ENGINES};
+use second::calls::{byte_difference, hex, ENGINES, LAYOUTS, RECORD};
 use second::coverage::{kind_of, Coverage, LETTER};
 use second::lists::Lists;
 use second::model::{self, Answer, FlatMemory, Rack, Step};
@@ -50,8 +50,8 @@ struct List {
     /// The rack of the program that was written from document 01 alone.
     blind: blind::Rack,
     flat: FlatMemory,
-    /// The buffer as the model has it, and each engine's.
-    want: Vec<u8>,
+    /// The buffer as the model has it in each layout, and each engine's.
+    want: Vec<Vec<u8>>,
     buffers: Vec<Vec<u8>>,
     made: Vec<Vec<u8>>,
     /// Which letter is next in turn.
@@ -61,7 +61,7 @@ struct List {
 impl List {
     fn open(seed: u64, sizes: Sizes) -> Result<List, String> {
         let (boards, blocks, tokens) = sizes;
-        let fill = filled(seed, record::length(blocks as usize) + SPARE);
+        let want: Vec<Vec<u8>> = LAYOUTS.iter().map(|layout| filled(seed, (layout.length)(blocks as usize) + SPARE)).collect();
         let rack = Rack::open(boards, blocks, tokens).expect("sizes in range");
         let blind = blind::Rack::open(boards, blocks, tokens).map_err(|number| format!("blind: refused {number} at {sizes:?}"))?;
         let mut list = List {
@@ -70,12 +70,12 @@ impl List {
             rack,
             blind,
             flat: FlatMemory::new(blocks),
-            want: fill.clone(),
-            buffers: vec![fill; ENGINES.len()],
+            buffers: ENGINES.iter().map(|engine| want[engine.layout].clone()).collect(),
+            want,
             made: Vec::new(),
             letter: 0,
         };
-        record::encode(&list.rack, &mut list.want);
+        list.encode();
         for (i, engine) in ENGINES.iter().enumerate() {
             let given = (engine.open)(&mut list.buffers[i], boards, blocks, tokens);
             list.same(i, reply::done(0), given)?;
@@ -94,7 +94,7 @@ impl List {
             return Err(self.case(&format!("blind: {} where the model gives {}", reply::say(blind), reply::say(want))));
         }
         if reply.is_ok() {
-            record::encode(&self.rack, &mut self.want);
+            self.encode();
             block.map_or(Ok(()), |block| self.same_state(block.into()))?;
         }
         for (i, engine) in ENGINES.iter().enumerate() {
@@ -110,6 +110,12 @@ impl List {
         Ok(want)
     }
 
+    fn encode(&mut self) {
+        for (layout, want) in LAYOUTS.iter().zip(&mut self.want) {
+            (layout.encode)(&self.rack, want);
+        }
+    }
+
     /// The block that a step is about.
     fn block_of(&self, step: Step) -> Option<u8> {
         match step {
@@ -123,7 +129,7 @@ impl List {
         if given != want {
             return Err(self.case(&format!("{}: {} where the model gives {}", ENGINES[i].name, reply::say(given), reply::say(want))));
         }
-        match byte_difference(&self.want, &self.buffers[i]) {
+        match byte_difference(&self.want[ENGINES[i].layout], &self.buffers[i]) {
             Some(what) => Err(self.case(&format!("{}: {what}", ENGINES[i].name))),
             None => Ok(()),
         }
@@ -215,7 +221,7 @@ impl List {
 
     fn case(&self, what: &str) -> String {
         let (boards, blocks, tokens) = self.sizes;
-        let mut text = format!("fill {} {}\nopen {boards} {blocks} {tokens}\n", self.seed, self.want.len());
+        let mut text = format!("fill {} {}\nopen {boards} {blocks} {tokens}\n", self.seed, self.want[RECORD].len());
         for bytes in &self.made {
             text.push_str(&format!("step {}\n", hex(bytes)));
         }

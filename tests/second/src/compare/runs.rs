@@ -1,7 +1,7 @@
 //! Lists in one call.
 
 use super::{Harness, RACKS};
-use second::calls::{hex, Call, ENGINES};
+use second::calls::{hex, Call, ENGINES, RECORD};
 use second::lists::Lists;
 use second::{model, record};
 
@@ -66,7 +66,7 @@ impl Harness {
 
     /// A run is as so many single steps: the engine's own calls beside each other.
     fn singly(&mut self, before: &[u8], list: &[u8]) -> Result<(), String> {
-        for engine in &ENGINES {
+        for engine in ENGINES.iter().filter(|engine| engine.layout == RECORD) {
             let (mut whole, mut single) = (before.to_vec(), before.to_vec());
             let mut replies = vec![0; 80];
             let made = (engine.run)(&mut whole, list, &mut 0, &mut replies);

@@ -2,6 +2,7 @@
 
 use super::Harness;
 use second::calls::Call;
+use second::layout::TOKENS;
 use second::lists::{tear, tear_so, TEARS};
 use second::record;
 
@@ -9,7 +10,7 @@ impl Harness {
     pub fn torn(&mut self) -> Result<(), String> {
         let (rack, sound) = self.deep((3, 2, 5), 60, |_| true);
         let mut unsound = sound.clone();
-        unsound[2] += 1;
+        unsound[TOKENS] += 1;
         let short = sound[..record::length(2) - 1].to_vec();
         let buffers = [sound, unsound, short];
         for bytes in self.one_of_each(&rack) {

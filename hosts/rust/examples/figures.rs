@@ -1,0 +1,72 @@
+//! Prints every figure of the records in a file, which stand there one after the other.
+//! `tests/view_compare.c` writes such a file and prints the same lines by the view in C.
+
+use hyaloneth::{Boards, View};
+use std::fmt::Write;
+use std::process::ExitCode;
+
+fn words(words: &[u32; 8]) -> String {
+    words.iter().map(|word| format!(" {word:08x}")).collect()
+}
+
+fn bits(boards: Boards) -> u32 {
+    boards.iter().fold(0, |set, board| set | 1 << board)
+}
+
+/// The figures of one record.
+fn figures(view: &View) -> Result<String, std::fmt::Error> {
+    let mut out = String::new();
+    let (n, b, t) = (view.boards(), view.blocks(), view.tokens());
+    writeln!(out, "record {n} {b} {t} {} {}", view.messages().len(), view.record_len())?;
+    for m in view.messages() {
+        let (owner, data) = (u32::from(m.owner), u32::from(m.data));
+        let carried = words(&m.words);
+        let (sender, target, block, plain) = (m.sender, m.target, m.block, m.plain);
+        writeln!(out, "message {sender} {target} {block} {plain} {owner} {data}{carried}")?;
+    }
+    for block in 0..b {
+        let waiting = view.waiting(block).map_or(0, bits);
+        writeln!(out, "block {block} {waiting:04x} {}", view.active(block).unwrap_or(0))?;
+        for component in 0..=n {
+            let cell = view.cell(component, block).ok_or(std::fmt::Error)?;
+            let (owner, valid) = (u32::from(cell.owner), u32::from(cell.valid));
+            write!(
+                out,
+                "cell {} {owner} {} {valid}{}",
+                cell.plain,
+                cell.held(),
+                words(&cell.words)
+            )?;
+            match view.barring(component, block) {
+                Some(barring) => writeln!(out, " {:04x}", bits(barring))?,
+                None => writeln!(out)?,
+            }
+        }
+    }
+    Ok(out)
+}
+
+fn print(file: &str) -> Result<(), String> {
+    let bytes = std::fs::read(file).map_err(|error| format!("{file}: {error}"))?;
+    let mut rest = &bytes[..];
+    while !rest.is_empty() {
+        let view = View::of(rest).map_err(|refusal| format!("{file}: a record is {refusal}"))?;
+        print!("{}", figures(&view).map_err(|error| format!("{file}: {error}"))?);
+        rest = &rest[view.record_len()..];
+    }
+    Ok(())
+}
+
+fn main() -> ExitCode {
+    let Some(file) = std::env::args().nth(1) else {
+        eprintln!("usage: figures FILE, a file of records");
+        return ExitCode::from(2);
+    };
+    match print(&file) {
+        Ok(()) => ExitCode::SUCCESS,
+        Err(message) => {
+            eprintln!("{message}");
+            ExitCode::FAILURE
+        }
+    }
+}

@@ -1,0 +1,47 @@
+/* Holds the accessors of both headers to their values, and to a single evaluation of their argument. Needs no archive. Exits with 1 where one
+ * differs. */
+#include <inttypes.h>
+#include <stdio.h>
+#include "hyaloneth.h"
+
+static unsigned calls;
+static uint64_t result;
+
+static uint64_t next(void)
+{
+    calls++;
+    return result;
+}
+
+static int failures;
+
+/* An accessor gave `got` after so many evaluations; it must be `expected` after one. */
+static void expect(const char *accessor, uint64_t got, uint64_t expected)
+{
+    if (got != expected || calls != 1) {
+        failures++;
+        printf("%s of %#" PRIx64 " is %#" PRIx64 ", not %#" PRIx64 ", after %u evaluations\n", accessor, result, got, expected, calls);
+    }
+    calls = 0;
+}
+
+int main(void)
+{
+    static const unsigned kinds[] = {HYL_DONE, HYL_REFUSED, HYL_WORD_GIVEN, HYL_LETTER_GIVEN, 4, 255};
+    static const uint32_t numbers[] = {0, 1, 20, 'M', 0x80000000u, 0xffffffffu};
+    unsigned k, i;
+
+    for (k = 0; k < sizeof kinds / sizeof *kinds; k++)
+        for (i = 0; i < sizeof numbers / sizeof *numbers; i++) {
+            unsigned kind = kinds[k];
+            uint32_t number = numbers[i];
+            /* Bits 32 to 55 belong to no accessor. */
+            result = (uint64_t)kind << 56 | UINT64_C(0xabcdef) << 32 | number;
+            expect("HYL_KIND", HYL_KIND(next()), kind);
+            expect("HYL_REFUSAL", HYL_REFUSAL(next()), kind == HYL_REFUSED ? number : 0);
+            expect("HYL_COUNT", HYL_COUNT(next()), kind == HYL_DONE ? number : 0);
+            expect("HYL_WORD_OF", HYL_WORD_OF(next()), kind == HYL_WORD_GIVEN ? number : 0);
+            expect("HYL_LETTER_OF", (unsigned char)HYL_LETTER_OF(next()), kind == HYL_LETTER_GIVEN ? number & 0xff : 0);
+        }
+    return failures != 0;
+}

@@ -1,0 +1,163 @@
+//! The rows of the benchmark: racks in some state, with seeded lists that keep them in such a state.
+
+use second::lists::{Lists, Mood};
+use second::model::{self, Rack, Step, HOME, MESH_LIMIT};
+use std::ops::Range;
+
+type Sizes = (u32, u32, u32);
+
+/// Steps that bring a rack into its state before the list starts.
+const WARM_UP: usize = 40_000;
+/// So many records of the largest rack do not fit into a core's own caches. Each gets so many steps in a run before the next one's turn.
+const MANY: usize = 400;
+const TURN: usize = 10;
+
+/// A rack, and the list that it is given.
+pub struct Work {
+    pub rack: Rack,
+    pub list: Vec<u8>,
+    pub cuts: Vec<Range<usize>>,
+}
+
+pub struct Row {
+    pub name: &'static str,
+    pub sizes: Sizes,
+    /// They are served in turn: one step at a time by `hyl_step`, `turn` steps by `hyl_run`.
+    pub works: Vec<Work>,
+    pub turn: usize,
+    pub accepted: usize,
+    pub in_flight: f64,
+    /// Valid copies of a block.
+    pub copies: f64,
+    /// Of a hundred blocks, how many bar a board: these take longest in soundness.
+    pub barred: f64,
+}
+
+/// What a list keeps a rack at.
+#[derive(Clone, Copy, PartialEq, Eq)]
+enum State {
+    Few,
+    Full,
+    /// Few messages, and every component has valid data of every block.
+    Copies,
+}
+
+pub fn all(steps: usize) -> Vec<Row> {
+    let mut rows = Vec::new();
+    for sizes in [(2, 1, 3), (8, 16, 16), (15, 32, 64)] {
+        rows.push(row("few messages", sizes, State::Few, 1, steps));
+        rows.push(row("full mesh", sizes, State::Full, 1, steps));
+    }
+    rows.push(row("copies at all boards", (15, 32, 64), State::Copies, 1, steps));
+    rows.push(row("400 records in turn", (15, 32, 64), State::Few, MANY, steps));
+    rows
+}
+
+impl Row {
+    /// How many steps it has in all.
+    pub fn steps(&self) -> usize {
+        self.works.iter().map(|work| work.cuts.len()).sum()
+    }
+
+    /// The runs in the order in which they are made: the record's number, where in its list the run starts, and how many steps it has.
+    pub fn runs(&self) -> Vec<(usize, usize, usize)> {
+        let longest = self.works.iter().map(|work| work.cuts.len()).max().unwrap_or(0);
+        let turns = (0..longest).step_by(self.turn).flat_map(|i| self.works.iter().enumerate().map(move |work| (i, work)));
+        turns.filter_map(|(i, (number, work))| Some((number, work.cuts.get(i)?.start, self.turn.min(work.cuts.len() - i)))).collect()
+    }
+
+    /// The first single steps in the order in which they are given: the record's number and the step's bytes.
+    pub fn order(&self, steps: usize) -> Vec<(usize, &[u8])> {
+        let longest = self.works.iter().map(|work| work.cuts.len()).max().unwrap_or(0);
+        let turns = (0..longest).flat_map(|i| self.works.iter().enumerate().map(move |(number, work)| (i, number, work)));
+        turns.filter_map(|(i, number, work)| Some((number, &work.list[work.cuts.get(i)?.clone()]))).take(steps).collect()
+    }
+}
+
+fn row(name: &'static str, sizes: Sizes, state: State, records: usize, steps: usize) -> Row {
+    let (boards, blocks, tokens) = sizes;
+    let mut lists = Lists::new(u64::from(boards) * 1000 + state as u64);
+    let mut rack = Rack::open(boards, blocks, tokens).expect("sizes in range");
+    if state == State::Copies {
+        spread(&mut rack);
+    }
+    for _ in 0..WARM_UP {
+        let step = next(&mut lists, &rack, state);
+        // A refusal changes nothing.
+        let _ = rack.step(step);
+    }
+    let turn = if records > 1 { TURN } else { steps };
+    let mut row = Row { name, sizes, works: Vec::new(), turn, accepted: 0, in_flight: 0.0, copies: 0.0, barred: 0.0 };
+    let mut looks = 0;
+    for _ in 0..records {
+        // Records that stand beside each other are not alike.
+        for _ in 0..if records > 1 { 200 } else { 0 } {
+            let step = next(&mut lists, &rack, state);
+            let _ = rack.step(step);
+        }
+        let mut work = Work { rack: rack.clone(), list: Vec::new(), cuts: Vec::new() };
+        while work.cuts.len() < steps / records {
+            let step = next(&mut lists, &rack, state);
+            let fits = rack.step(step).is_ok();
+            if work.cuts.len().is_multiple_of(50) {
+                looks += rack.blocks.len();
+                for block in &rack.blocks {
+                    row.copies += block.cells.iter().filter(|cell| cell.valid).count() as f64;
+                    row.barred += 100.0 * f64::from(block.barring.values().any(|set| !set.is_empty()));
+                }
+            }
+            // Most steps of a policy fit.
+            if fits || lists.rng.percent(20) {
+                let at = work.list.len();
+                work.list.extend(model::write(step));
+                work.cuts.push(at..work.list.len());
+                row.accepted += usize::from(fits);
+                row.in_flight += rack.mesh.len() as f64;
+            }
+        }
+        row.works.push(work);
+    }
+    row.in_flight /= row.steps() as f64;
+    row.copies /= looks as f64;
+    row.barred /= looks as f64;
+    row
+}
+
+/// Three plain tokens with data go from home to every board.
+fn spread(rack: &mut Rack) {
+    for block in 0..rack.blocks.len() as u8 {
+        for target in 1..=rack.boards {
+            let send = Step::Send { component: HOME, block, target, plain: 3, owner: false, data: true };
+            rack.step(send).and_then(|_| rack.step(Step::Deliver { position: 0 })).expect("home has the tokens");
+        }
+    }
+}
+
+fn next(lists: &mut Lists, rack: &Rack, state: State) -> Step {
+    let most = (rack.blocks.len() * rack.tokens as usize).min(MESH_LIMIT);
+    let band = if state == State::Full { most - most / 8..most + 1 } else { 0..most.min(24) / 4 };
+    let mood = match rack.mesh.len() {
+        count if count < band.start => Mood::Flood,
+        count if count >= band.end => Mood::Drain,
+        _ => Mood::Mixed,
+    };
+    loop {
+        let step = lists.in_mood(rack, mood);
+        if state != State::Copies || !empties(rack, step) {
+            return step;
+        }
+    }
+}
+
+/// Whether the step takes the last token that a component has of a block.
+fn empties(rack: &Rack, step: Step) -> bool {
+    let held = |component: u8, block: u8| {
+        let cell = rack.blocks.get(usize::from(block)).and_then(|block| block.cells.get(usize::from(component)));
+        cell.map_or(0, model::Cell::held)
+    };
+    match step {
+        Step::Send { component, block, plain, owner, .. } => u32::from(plain) + u32::from(owner) == held(component, block),
+        Step::Forward { .. } => true,
+        _ => false,
+    }
+}

@@ -1,0 +1,48 @@
+//! The byte layout of the record, by docs/RECORD.md: each number stands here once.
+
+/// The header: N, B, T and the count of messages in a byte each; the rest is room.
+pub const HEADER_SIZE: usize = 32;
+pub const BOARDS: usize = 0;
+pub const BLOCKS: usize = 1;
+pub const TOKENS: usize = 2;
+pub const COUNT: usize = 3;
+
+/// The mesh stands behind the header.
+pub const MESH_ROOM: usize = 64;
+pub const MESSAGE_SIZE: usize = 40;
+pub const SENDER: usize = 0;
+pub const TARGET: usize = 1;
+pub const MESSAGE_BLOCK: usize = 2;
+pub const MESSAGE_PLAIN: usize = 3;
+pub const MESSAGE_OWNER: usize = 4;
+pub const DATA: usize = 5;
+/// From here to the words a sound record has 0.
+pub const MESSAGE_ZEROS: usize = 6;
+pub const MESSAGE_WORDS: usize = 8;
+
+pub const BLOCKS_OFFSET: usize = HEADER_SIZE + MESH_ROOM * MESSAGE_SIZE;
+pub const BLOCK_SIZE: usize = 632;
+/// In a block each figure has a place for so many components. Places above N are 0 in a sound record, but for the words, which are room there.
+pub const PLACES: usize = 16;
+pub const PLAIN: usize = 0;
+pub const OWNER: usize = 16;
+pub const VALID: usize = 32;
+/// The barring set of board i is at place i; place 0 is 0 in a sound record.
+pub const BARRING: usize = 80;
+pub const SET_SIZE: usize = 2;
+pub const WAITING: usize = 112;
+pub const WORDS: usize = 120;
+pub const WORDS_SIZE: usize = 32;
+
+pub const fn message_offset(i: usize) -> usize {
+    HEADER_SIZE + MESSAGE_SIZE * i
+}
+
+pub const fn block_offset(block: usize) -> usize {
+    BLOCKS_OFFSET + BLOCK_SIZE * block
+}
+
+/// How many bytes the record of a rack of so many blocks takes.
+pub const fn length(blocks: usize) -> usize {
+    block_offset(blocks)
+}
