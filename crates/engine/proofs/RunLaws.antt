@@ -15,7 +15,7 @@ use lib.Seq.{drop-drop, take-suc-set, drop-set-lt, length-take-le}
 use Rattle.spec_base.specs.Folds.{sum}
 use Rattle.spec_rack.specs.Entries.{stepReply, stepAfter}
 use Rattle.spec_wire.specs.Frames.{frameSize, frames}
-use Rattle.wire_reader.proofs.Framing.{cuts-first, cuts-none, cuts-zero, span}
+use Rattle.wire_frames.proofs.Framing.{cuts-first, cuts-none, cuts-zero, span}
 use Rattle.spec_rack.specs.Lists.{runAll, repliesOf, after, replies, framesFrom, RunResult}
 use Rattle.spec_rack.specs.Results.{packedReply}
 

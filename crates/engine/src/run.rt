@@ -11,7 +11,7 @@ pub fn run(rec: &mut [u8], list: &[u8], at: &mut usize, replies: &mut [u64]) -> 
     let mut place = *at;
     let mut made: usize = 0;
     while both(made < replies.len(), place < list.len()) {
-        let end = wire_reader::frames::frame_end_within(list, place);
+        let end = wire_frames::frame_end_within(list, place);
         replies[made] = super::step::step_result(rec, sound, &list[place..end]);
         place = end;
         made += 1;

@@ -24,7 +24,7 @@ use Rattle.spec_rack.specs.Opening.{openReply, openAfter}
 use Rattle.spec_rack.specs.Entries.{stepReply, stepAfter}
 use Rattle.spec_wire.specs.Frames.{frameSize, frames}
 use Rattle.spec_rack.specs.Lists.{runAll, repliesOf, replies, after}
-use Rattle.wire_reader.proofs.Framing.{cuts-first, cuts-none, span}
+use Rattle.wire_frames.proofs.Framing.{cuts-first, cuts-none, span}
 use Rattle.spec_rack.specs.RecordLayout.{longestRecord}
 use Rattle.spec_rack.specs.RuledText.{ruledText}
 use Rattle.spec_rack.proofs.RuledText.{text-by-rules}

@@ -26,7 +26,7 @@ fn put_steps(rec: &mut [u8], list: &[u8], out: &mut [u8], at: usize) -> usize
     let mut place: usize = 0;
     let mut made: u64 = 0;
     while place < list.len() {
-        let end = wire_reader::frames::frame_end(list, place);
+        let end = wire_frames::frame_end(list, place);
         let reply = engine_step::step(rec, &list[place..end]);
         made += 1;
         to = line::put_line(out, to, made, reply);

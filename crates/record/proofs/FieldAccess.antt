@@ -48,14 +48,14 @@ module _ (s : List ℕ) (bytes : Bytes s) (b c : ℕ) (in-cell : CellInRecord s 
     set-marks-is m = sym (tokens-put s ok b c (in-cell .block) (in-cell .component) at e (m .plain, (m .owner, m .valid)))
 
     pub set-cell-is : (w : ℕ) → w ≡ blockOffset b + wordsOffset + wordsSize * c → (m : TokenState) (ws : List ℕ)
-        → modifyAt w 32 (words .write ws) (set (set (set s at (m .plain)) (at + ownerOffset) (toℕ (m .owner))) (at + validOffset) (toℕ (m .valid))) ≡ put (replaceCell (get s) b c (newCell m ws)) s
+        → modifyAt w wordsSize (words .write ws) (set (set (set s at (m .plain)) (at + ownerOffset) (toℕ (m .owner))) (at + validOffset) (toℕ (m .valid))) ≡ put (replaceCell (get s) b c (newCell m ws)) s
     set-cell-is w f m ws =
-        ap (λ (k : ℕ). modifyAt k 32 (words .write ws) (set (set (set s at (m .plain)) (at + ownerOffset) (toℕ (m .owner))) (at + validOffset) (toℕ (m .valid))))
+        ap (λ (k : ℕ). modifyAt k wordsSize (words .write ws) (set (set (set s at (m .plain)) (at + ownerOffset) (toℕ (m .owner))) (at + validOffset) (toℕ (m .valid))))
         (let q : w ≡ blockOffset b + (wordsOffset + wordsSize * c) = omega arith in q)
         ∙ sym (cell-put s ok b c (in-cell .block) (in-cell .component) at e (m .plain, (m .owner, m .valid)) ws)
 
   module _ (at : ℕ) (e : at ≡ blockOffset b + wordsOffset + wordsSize * c) where
-    pub words-is : words .read (slice at 32 s) ≡ cellAt (get s) b c .words
+    pub words-is : words .read (slice at wordsSize s) ≡ cellAt (get s) b c .words
     words-is = sym (words-at s ok b c (in-cell .block) (in-cell .component) at e)
 
     module _ (w : ℕ) (hw : w < 8) where
@@ -69,34 +69,34 @@ module _ (s : List ℕ) (bytes : Bytes s) (b c : ℕ) (in-cell : CellInRecord s 
 -- ---- loops over words
 
 -- eight words read one by one
-pub words-read : (s : List ℕ) (at : ℕ) (ws : List ℕ) → length ws ≡ 8 → ((k : ℕ) → k < 8 → getD ws k 0 ≡ big 4 .read (slice (at + 4 * k) 4 s)) → ws ≡ words .read (slice at 32 s)
+pub words-read : (s : List ℕ) (at : ℕ) (ws : List ℕ) → length ws ≡ 8 → ((k : ℕ) → k < 8 → getD ws k 0 ≡ big 4 .read (slice (at + 4 * k) 4 s)) → ws ≡ words .read (slice at wordsSize s)
 unfolding words
 words-read s at ws e f =
-    ext-getD 0 ws (readItems (big 4) 8 (slice at 32 s)) (e ∙ sym (length-readItems (big 4) 8 (slice at 32 s)))
+    ext-getD 0 ws (readItems (big 4) 8 (slice at wordsSize s)) (e ∙ sym (length-readItems (big 4) 8 (slice at wordsSize s)))
     (λ k l. f k (omega arith)
-    ∙ ap (big 4 .read) (sym (part-part at 32 (k * 4) 4 s (omega arith) ∙ ap (λ (q : ℕ). slice q 4 s) (let q : at + k * 4 ≡ at + 4 * k = omega arith in q)))
-    ∙ sym (item-looks (big 4) 0 8 k (slice at 32 s) (omega arith)))
+    ∙ ap (big 4 .read) (sym (part-part at wordsSize (k * 4) 4 s (omega arith) ∙ ap (λ (q : ℕ). slice q 4 s) (let q : at + k * 4 ≡ at + 4 * k = omega arith in q)))
+    ∙ sym (item-looks (big 4) 0 8 k (slice at wordsSize s) (omega arith)))
 
 -- the first i of eight words written
-module _ (s : List ℕ) (at : ℕ) (ws : List ℕ) (e : length ws ≡ 8) (l : at + 32 ≤ length s) where
+module _ (s : List ℕ) (at : ℕ) (ws : List ℕ) (e : length ws ≡ 8) (l : at + wordsSize ≤ length s) where
   abbrev pub lined : ℕ → List ℕ
-  lined i = modifyAt at 32 (writeItems (big 4) (take i ws)) s
+  lined i = modifyAt at wordsSize (writeItems (big 4) (take i ws)) s
 
   pub lined-more : (i : ℕ) → i < 8 → modifyAt (at + 4 * i) 4 (big 4 .write (getD ws i 0)) (lined i) ≡ lined (i + 1)
   lined-more i h =
-      let t : List ℕ = slice at 32 s in
-      let lt : length t ≡ 32 = length-part at 32 s l in
+      let t : List ℕ = slice at wordsSize s in
+      let lt : length t ≡ wordsSize = length-part at wordsSize s l in
       let lw : length (take i ws) ≡ i = length-take-le i ws (omega arith) in
-      over-in (big 4 .write (getD ws i 0)) (writeItems (big 4) (take i ws)) at 32 (4 * i) 4 s (items-keeps (big 4) (big-lawful 4) (take i ws) t) l (omega arith)
-      ∙ ap (λ (r : List ℕ). take at s ++ (r ++ drop (at + 32) s))
+      over-in (big 4 .write (getD ws i 0)) (writeItems (big 4) (take i ws)) at wordsSize (4 * i) 4 s (items-keeps (big 4) (big-lawful 4) (take i ws) t) l (omega arith)
+      ∙ ap (λ (r : List ℕ). take at s ++ (r ++ drop (at + wordsSize) s))
       (ap (λ (n : ℕ). modifyAt n 4 (big 4 .write (getD ws i 0)) (writeItems (big 4) (take i ws) t)) (let q : 4 * i ≡ length (take i ws) * 4 = omega arith in q)
       ∙ sym (items-more (big 4) (big-lawful 4) (take i ws) (getD ws i 0) t (omega arith))
       ∙ ap (λ (xs : List ℕ). writeItems (big 4) xs t) (sym (take-suc ws i 0 (omega arith)))
       ∙ ap (λ (n : ℕ). writeItems (big 4) (take n ws) t) (sym (add-one i)))
 
-  pub lined-all : (i : ℕ) → 8 ≤ i → lined i ≡ modifyAt at 32 (words .write ws) s
+  pub lined-all : (i : ℕ) → 8 ≤ i → lined i ≡ modifyAt at wordsSize (words .write ws) s
   unfolding words
-  lined-all i h = ap (λ (xs : List ℕ). modifyAt at 32 (writeItems (big 4) xs) s) (take-all i ws (omega arith))
+  lined-all i h = ap (λ (xs : List ℕ). modifyAt at wordsSize (writeItems (big 4) xs) s) (take-all i ws (omega arith))
 
 -- ---- bytes moved up
 

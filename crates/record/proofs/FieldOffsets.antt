@@ -17,7 +17,7 @@ use Rattle.spec_base.proofs.Places.{Place, within, item, over-in}
 use Rattle.spec_base.proofs.Lanes.{over-three}
 use Rattle.spec_base.proofs.Copies.{items-more, items-removed}
 use Rattle.spec_rack.specs.Claims.{Claims}
-use Rattle.spec_rack.specs.RecordLayout.{claims, blockOffset, ownerOffset, validOffset, claimsOffset, wordsOffset, wordsSize, Tokens, words, toCell, cellTokens, message, block, header, rackLayout, layoutOf, get, put, blockSize, blocksIn, boardsIn, claimsSize, meshSize, messageOffset, messageSize, messagesIn, tokensIn, headerSize, meshRoom}
+use Rattle.spec_rack.specs.RecordLayout.{claims, blockOffset, ownerOffset, validOffset, claimsOffset, wordsOffset, wordsSize, Tokens, words, toCell, cellTokens, message, block, header, rackLayout, layoutOf, get, put, blockSize, blocksIn, boardsIn, claimsSize, meshSize, messageCountOffset, messageOffset, messageSize, messagesIn, tokensIn, headerSize, meshRoom}
 use Rattle.spec_rack.specs.declared.Message.{Message}
 use Rattle.spec_rack.specs.Rack.{Block, noCell, noBlock, noMessage, blockAt, cellAt, claimsAt, messageAt}
 use Rattle.spec_rack.specs.Rules.{withClaims}
@@ -44,19 +44,19 @@ module _ (s : List ℕ) (ok : Formed s) where
     inside : blockOffset b + blockSize ≤ length s
     inside = omega (arith, ok .room)
 
-    owner-there : blockOffset b + (16 + c) ≡ at + ownerOffset
+    owner-there : blockOffset b + (ownerOffset + c) ≡ at + ownerOffset
     owner-there = omega arith
 
-    valid-there : blockOffset b + (32 + c) ≡ at + validOffset
+    valid-there : blockOffset b + (validOffset + c) ≡ at + validOffset
     valid-there = omega arith
 
     -- three bytes, one in each lane
     abbrev three : Tokens → List ℕ → List ℕ
-    three v t = set (set (set t c (v .0)) (16 + c) (toℕ (v .1 .0))) (32 + c) (toℕ (v .1 .1))
+    three v t = set (set (set t c (v .0)) (ownerOffset + c) (toℕ (v .1 .0))) (validOffset + c) (toℕ (v .1 .1))
 
     three-there : (v : Tokens) → modifyAt (blockOffset b) blockSize (three v) s ≡ set (set (set s at (v .0)) (at + ownerOffset) (toℕ (v .1 .0))) (at + validOffset) (toℕ (v .1 .1))
     three-there v =
-        over-three (blockOffset b) blockSize s inside c (16 + c) (32 + c) (v .0) (toℕ (v .1 .0)) (toℕ (v .1 .1)) (omega (arith, known)) (omega (arith, known)) (omega (arith, known))
+        over-three (blockOffset b) blockSize s inside c (ownerOffset + c) (validOffset + c) (v .0) (toℕ (v .1 .0)) (toℕ (v .1 .1)) (omega (arith, known)) (omega (arith, known)) (omega (arith, known))
         ∙ (λ i. set (set (set s (sym e i) (v .0)) (owner-there i) (toℕ (v .1 .0))) (valid-there i) (toℕ (v .1 .1)))
 
     pub tokens-at : cellTokens (cellAt (get s) b c) ≡ (getD s at 0, (eqb (getD s (at + ownerOffset) 0) 1, eqb (getD s (at + validOffset) 0) 1))
@@ -64,7 +64,7 @@ module _ (s : List ℕ) (ok : Formed s) where
         read-spread s ok (tokens-spread (boardsIn s) (ok .boards) c hc) b hb
         ∙ (λ i. (
           part-at (blockOffset b) blockSize c s (omega (arith, known)) i,
-          (eqb (part-at (blockOffset b) blockSize (16 + c) s (omega (arith, known)) i) 1, eqb (part-at (blockOffset b) blockSize (32 + c) s (omega (arith, known)) i) 1),
+          (eqb (part-at (blockOffset b) blockSize (ownerOffset + c) s (omega (arith, known)) i) 1, eqb (part-at (blockOffset b) blockSize (validOffset + c) s (omega (arith, known)) i) 1),
         ))
         ∙ (λ i. (getD s (sym e i) 0, (eqb (getD s (owner-there i) 0) 1, eqb (getD s (valid-there i) 0) 1)))
 
@@ -75,11 +75,11 @@ module _ (s : List ℕ) (ok : Formed s) where
 
     -- other tokens and words change those and 32 bytes
     pub cell-put : (v : Tokens) (ws : List ℕ) → put (replaceCell (get s) b c (toCell (v, ws))) s
-        ≡ modifyAt (blockOffset b + (wordsOffset + wordsSize * c)) 32 (words .write ws) (set (set (set s at (v .0)) (at + ownerOffset) (toℕ (v .1 .0))) (at + validOffset) (toℕ (v .1 .1)))
+        ≡ modifyAt (blockOffset b + (wordsOffset + wordsSize * c)) wordsSize (words .write ws) (set (set (set s at (v .0)) (at + ownerOffset) (toℕ (v .1 .0))) (at + validOffset) (toℕ (v .1 .1)))
     cell-put v ws =
         write-spread s ok (cell-spread (boardsIn s) (ok .boards) c hc) b hb (v, ws)
-        ∙ sym (over-in (words .write ws) (three v) (blockOffset b) blockSize (wordsOffset + 32 * c) 32 s (simp length-set) inside (omega (arith, known)))
-        ∙ ap (modifyAt (blockOffset b + (wordsOffset + 32 * c)) 32 (words .write ws)) (three-there v)
+        ∙ sym (over-in (words .write ws) (three v) (blockOffset b) blockSize (wordsOffset + wordsSize * c) wordsSize s (simp length-set) inside (omega (arith, known)))
+        ∙ ap (modifyAt (blockOffset b + (wordsOffset + wordsSize * c)) wordsSize (words .write ws)) (three-there v)
 
   -- as many cells as components
   pub cells-many : (b : ℕ) → b < blocksIn s → length (blockAt (get s) b .cells) ≡ suc (boardsIn s)
@@ -90,7 +90,7 @@ module _ (s : List ℕ) (ok : Formed s) where
   -- ---- the words of a component, and one of them
 
   module _ (b c : ℕ) (hb : b < blocksIn s) (hc : c ≤ boardsIn s) where
-    pub words-at : (at : ℕ) → at ≡ blockOffset b + wordsOffset + wordsSize * c → cellAt (get s) b c .words ≡ words .read (slice at 32 s)
+    pub words-at : (at : ℕ) → at ≡ blockOffset b + wordsOffset + wordsSize * c → cellAt (get s) b c .words ≡ words .read (slice at wordsSize s)
     words-at at e =
         read-figure s ok (words-place (boardsIn s) (ok .boards) c hc) b hb
         ∙ (λ i. words .read (slice (let q : blockOffset b + (wordsOffset + wordsSize * c) ≡ at = omega arith in q i) (words-size i) s))
@@ -180,7 +180,7 @@ module _ (s : List ℕ) (ok : Formed s) where
   mesh-write l = λ i.
       rackLayout (boards-is s i) (blocks-is s i) (messagesIn s) .write ((boards-is s i, (blocks-is s i, (tokens-is s i, length l))), (l, layoutOf s .read s .1 .1)) s
 
-  mesh-changes : (l : List Message) → put (withMesh (get s) l) s ≡ set (modifyAt headerSize (meshRoom * message .size) (writeItems message l) s) 3 (length l)
+  mesh-changes : (l : List Message) → put (withMesh (get s) l) s ≡ set (modifyAt headerSize (meshRoom * message .size) (writeItems message l) s) messageCountOffset (length l)
   unfolding rackLayout
   mesh-changes l =
       let rest : Layout (List Message × List Block) = pair (items message meshRoom (messagesIn s)) (items (block (boardsIn s)) (blocksIn s) (blocksIn s)) in
@@ -189,8 +189,8 @@ module _ (s : List ℕ) (ok : Formed s) where
       let x : List ℕ = rest .write (l, layoutOf s .read s .1 .1) (slice k (rest .size) s) ++ drop (k + rest .size) s in
       mesh-write l
       ∙ ap (λ (t : List ℕ). t ++ x) (count-write s (length l) (ok .bytes) long)
-      ∙ sym (set-append-left (take k s) x 3 (length l) (omega (arith, header-size)))
-      ∙ ap (λ (t : List ℕ). set t 3 (length l))
+      ∙ sym (set-append-left (take k s) x messageCountOffset (length l) (omega (arith, header-size)))
+      ∙ ap (λ (t : List ℕ). set t messageCountOffset (length l))
       (ap (λ (t : List ℕ). t ++ x)
       (sym (header-lawful .unchanged (take k s) (record { bytes = bytes-take k s (ok .bytes); wellFormed = header-formed (take k s); room = le-of-eq (sym lk) })))
       ∙ same-count l)
@@ -215,7 +215,7 @@ module _ (s : List ℕ) (ok : Formed s) where
 
   -- a message more is the message behind the others, and the count one more
   pub append-put : (m : Message) → messagesIn s < 64
-      → set (modifyAt (messageOffset (messagesIn s)) messageSize (message .write m) s) 3 (messagesIn s + 1) ≡ put (withMesh (get s) (get s .mesh ++ m ∷ [])) s
+      → set (modifyAt (messageOffset (messagesIn s)) messageSize (message .write m) s) messageCountOffset (messagesIn s + 1) ≡ put (withMesh (get s) (get s .mesh ++ m ∷ [])) s
   append-put m h =
       let k : ℕ = message .size in
       let t : List ℕ = slice headerSize (meshRoom * k) s in
@@ -223,17 +223,17 @@ module _ (s : List ℕ) (ok : Formed s) where
       let e : length (get s .mesh) ≡ n = mesh-is s in
       sym
       (mesh-changes (get s .mesh ++ m ∷ [])
-      ∙ ap (λ (j : ℕ). set (modifyAt headerSize (meshRoom * k) (writeItems message (get s .mesh ++ m ∷ [])) s) 3 j) (length-append (get s .mesh) (m ∷ []) ∙ ap (λ (j : ℕ). j + 1) e)
-      ∙ ap (λ (r : List ℕ). set (take headerSize s ++ (r ++ drop (headerSize + meshRoom * k) s)) 3 (n + 1))
+      ∙ ap (λ (j : ℕ). set (modifyAt headerSize (meshRoom * k) (writeItems message (get s .mesh ++ m ∷ [])) s) messageCountOffset j) (length-append (get s .mesh) (m ∷ []) ∙ ap (λ (j : ℕ). j + 1) e)
+      ∙ ap (λ (r : List ℕ). set (take headerSize s ++ (r ++ drop (headerSize + meshRoom * k) s)) messageCountOffset (n + 1))
       (items-more message message-lawful (get s .mesh) m t (le-trans (mul-le-mul-right k (le-trans (le-of-eq (ap suc e)) h)) (le-of-eq (sym slots-length)))
       ∙ (λ i. modifyAt (e i * k) k (message .write m) (mesh-unchanged i)))
-      ∙ ap (λ (r : List ℕ). set r 3 (n + 1))
+      ∙ ap (λ (r : List ℕ). set r messageCountOffset (n + 1))
       (over-over (message .write m) headerSize (meshRoom * k) (n * k) k s (slot-inside n h) ∙ ap (λ (j : ℕ). modifyAt (headerSize + n * j) j (message .write m) s) message-size
       ∙ ap (λ (j : ℕ). modifyAt j messageSize (message .write m) s) (let q : headerSize + n * messageSize ≡ messageOffset n = omega arith in q)))
 
   -- a message less is the messages behind it moved up, and the count one less
   pub removed-put : (p : ℕ) → p < messagesIn s
-      → set (modifyAt (messageOffset p) (messageSize * (messagesIn s - 1 - p)) (λ r. slice (messageOffset p + messageSize) (messageSize * (messagesIn s - 1 - p)) s) s) 3 (messagesIn s - 1)
+      → set (modifyAt (messageOffset p) (messageSize * (messagesIn s - 1 - p)) (λ r. slice (messageOffset p + messageSize) (messageSize * (messagesIn s - 1 - p)) s) s) messageCountOffset (messagesIn s - 1)
       ≡ put (withMesh (get s) (removeAt (get s .mesh) p)) s
   removed-put p h =
       let k : ℕ = message .size in
@@ -244,10 +244,10 @@ module _ (s : List ℕ) (ok : Formed s) where
       let fits : p * messageSize + messageSize + (n - p) * messageSize ≤ meshRoom * messageSize = omega arith in
       sym
       (mesh-changes (removeAt (get s .mesh) p)
-      ∙ (λ i. set (modifyAt headerSize (meshRoom * k) (writeItems message (removeAt ((mesh-items s ok ∙ ap (λ (j : ℕ). readItems message j t) e) i) p)) s) 3 (removed-length p (get s .mesh) n (mesh-is s ∙ e) (omega arith) i))
-      ∙ ap (λ (r : List ℕ). set (take headerSize s ++ (r ++ drop (headerSize + meshRoom * k) s)) 3 n)
+      ∙ (λ i. set (modifyAt headerSize (meshRoom * k) (writeItems message (removeAt ((mesh-items s ok ∙ ap (λ (j : ℕ). readItems message j t) e) i) p)) s) messageCountOffset (removed-length p (get s .mesh) n (mesh-is s ∙ e) (omega arith) i))
+      ∙ ap (λ (r : List ℕ). set (take headerSize s ++ (r ++ drop (headerSize + meshRoom * k) s)) messageCountOffset n)
       (items-removed message message-lawful message-full n p t (omega arith) (subst (λ (j : ℕ). StandItems message j t) e (mesh-stands s ok)))
-      ∙ ap (λ (r : List ℕ). set r 3 n)
+      ∙ ap (λ (r : List ℕ). set r messageCountOffset n)
       (ap (λ (j : ℕ). modifyAt headerSize (meshRoom * j) (modifyAt (p * j) ((n - p) * j) (λ r. slice (suc p * j) ((n - p) * j) (slice headerSize (meshRoom * j) s))) s) message-size
       ∙ over-over (λ r. slice (suc p * messageSize) ((n - p) * messageSize) (slice headerSize meshSize s)) headerSize meshSize (p * messageSize) ((n - p) * messageSize) s (omega arith)
       ∙ ap (λ (r : List ℕ). modifyAt (headerSize + p * messageSize) ((n - p) * messageSize) (λ q. r) s) (part-part headerSize meshSize (suc p * messageSize) ((n - p) * messageSize) s (omega arith))

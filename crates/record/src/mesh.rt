@@ -6,7 +6,7 @@ ghost use lib.ListN.{length, getD};
 ghost use Rattle.spec_base.specs.Folds.{removeAt};
 ghost use Rattle.spec_base.specs.Layout.{slice, modifyAt};
 ghost use Rattle.spec_rack.specs.Rack.{messageAt};
-ghost use Rattle.spec_rack.specs.RecordLayout.{messageSize, message, get, put, messagesIn};
+ghost use Rattle.spec_rack.specs.RecordLayout.{messageOffset, messageSize, message, get, put, messagesIn};
 ghost use Rattle.record.specs.Needs.{InLayout};
 ghost use Rattle.record.specs.Changes.{withMesh};
 use super::TokenState;
@@ -27,12 +27,19 @@ use spec_rack::Message;
 use spec_rack::SENDER_OFFSET;
 use spec_rack::TARGET_OFFSET;
 
+// The offset of the message at a position.
+pub fn message_offset(position: u8) -> usize
+    ensures { λ r. ⌜ r ≡ messageOffset position ⌝ }
+{
+    HEADER_SIZE + MESSAGE_SIZE * (position as usize)
+}
+
 // The message at a position.
 pub fn message_at(rec: &[u8], position: u8) -> Message
     requires { ⌜ InLayout (now rec) × (position < messagesIn (now rec)) ⌝ }
     ensures { λ r. ⌜ r ≡ messageAt (get (now (rec .entry))) position ⌝ }
 {
-    let at = HEADER_SIZE + MESSAGE_SIZE * (position as usize);
+    let at = message_offset(position);
     let values = words::words_at(rec, at + MESSAGE_WORDS_OFFSET);
     Message {
         sender: byte_at(rec, at, SENDER_OFFSET),
@@ -74,7 +81,7 @@ pub fn append(rec: &mut [u8], m: Message)
     ensures { λ r. ⌜ now (rec .exit) ≡ put (withMesh (get (now (rec .entry))) (get (now (rec .entry)) .mesh ++ m ∷ [])) (now (rec .entry)) ⌝ }
 {
     let count = rec[MESSAGE_COUNT_OFFSET];
-    let at = HEADER_SIZE + MESSAGE_SIZE * (count as usize);
+    let at = message_offset(count);
     put_message(rec, at, m);
     rec[MESSAGE_COUNT_OFFSET] = count + 1;
 }
@@ -99,7 +106,7 @@ pub fn remove(rec: &mut [u8], position: u8)
     let count = rec[MESSAGE_COUNT_OFFSET];
     let left = count - 1;
     let behind = left - position;
-    let at = HEADER_SIZE + MESSAGE_SIZE * (position as usize);
+    let at = message_offset(position);
     let bytes = MESSAGE_SIZE * (behind as usize);
     close_gap(rec, at, bytes);
     rec[MESSAGE_COUNT_OFFSET] = left;

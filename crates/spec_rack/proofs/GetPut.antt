@@ -20,7 +20,7 @@ use Rattle.spec_base.proofs.Places.{Place, within, first, second, item, write-b
 use Rattle.spec_base.proofs.Padded.{room-lawful, padded-place}
 use Rattle.spec_base.proofs.Lanes.{zip-length, zip-at, map-set, length-lane, Spread, place-iso, spread-place, spread-within, spread-as, spread-iso, spread-pair, over-both, spread-zipped, spread-byte, spread-flag, set-first, over-set, over-none, over-three}
 use Rattle.spec_rack.specs.Claims.{Claims}
-use Rattle.spec_rack.specs.RecordLayout.{claims, headerSize, blockSize, blockOffset, ownerOffset, validOffset, wordsOffset, wordsSize, Tokens, tokens, words, message, tokenLanes, toCell, cellTokens, toBlock, fromBlock, block, header, RackFields, rackLayout, recordLength, toRack, fromRack, layoutOf, get, put, blocksIn, boardsIn, claimsOffset, claimsRoom, messagesIn, tokensIn, meshRoom}
+use Rattle.spec_rack.specs.RecordLayout.{claims, headerSize, blockSize, blockOffset, ownerOffset, validOffset, wordsOffset, wordsSize, Tokens, tokens, words, message, tokenLanes, toCell, cellTokens, toBlock, fromBlock, block, header, RackFields, rackLayout, recordLength, toRack, fromRack, layoutOf, get, put, blocksIn, boardsIn, claimsOffset, claimsRoom, messagesIn, tokensIn, meshRoom, laneSize}
 use Rattle.spec_rack.specs.declared.Message.{Message}
 use Rattle.spec_rack.specs.Rack.{Cell, Block, Rack, zeros, noCell, noBlock, blockAt}
 use Rattle.spec_rack.specs.Rules.{changed}
@@ -107,15 +107,15 @@ module _ (n b m : ℕ) where
 pub lanes-length : (n : ℕ) (s : List ℕ) → length (tokenLanes n .read s) ≡ suc n
 unfolding tokenLanes
 lanes-length n s =
-    zip-length (lane byte (suc n) .read (take 16 s)) (zipped (lane flag (suc n)) (lane flag (suc n)) .read (slice 16 32 s))
-    (length-lane byte (suc n) (take 16 s) ∙ sym (flags-length n (slice 16 32 s)))
-    ∙ length-lane byte (suc n) (take 16 s)
+    zip-length (lane byte (suc n) .read (take laneSize s)) (zipped (lane flag (suc n)) (lane flag (suc n)) .read (slice laneSize (2 * laneSize) s))
+    (length-lane byte (suc n) (take laneSize s) ∙ sym (flags-length n (slice laneSize (2 * laneSize) s)))
+    ∙ length-lane byte (suc n) (take laneSize s)
   where
     flags-length : (k : ℕ) (t : List ℕ) → length (zipped (lane flag (suc k)) (lane flag (suc k)) .read t) ≡ suc k
     flags-length k t =
-        zip-length (lane flag (suc k) .read (take 16 t)) (lane flag (suc k) .read (slice 16 16 t))
-        (length-lane flag (suc k) (take 16 t) ∙ sym (length-lane flag (suc k) (slice 16 16 t)))
-        ∙ length-lane flag (suc k) (take 16 t)
+        zip-length (lane flag (suc k) .read (take laneSize t)) (lane flag (suc k) .read (slice laneSize laneSize t))
+        (length-lane flag (suc k) (take laneSize t) ∙ sym (length-lane flag (suc k) (slice laneSize laneSize t)))
+        ∙ length-lane flag (suc k) (take laneSize t)
 
 -- marks and counts in lanes: the three bytes of component c
 pub lanes-spread : (n : ℕ) → n ≤ 15 → (c : ℕ) → c ≤ n
@@ -125,42 +125,42 @@ pub lanes-spread : (n : ℕ) → n ≤ 15 → (c : ℕ) → c ≤ n
 unfolding tokenLanes
 lanes-spread n h c hc =
     spread-as (spread-zipped (λ s t. length-lane byte (suc n) s ∙ sym (flags-length t)) c 0 (false, false) (spread-byte (suc n) (suc-le-suc h) c (suc-le-suc hc)) flags)
-    (λ s. (getD s c 0, (eqb (getD s (16 + c) 0) 1, eqb (getD s (32 + c) 0) 1)))
-    (λ v s. set (set (set s c (v .0)) (16 + c) (toℕ (v .1 .0))) (32 + c) (toℕ (v .1 .1)))
+    (λ s. (getD s c 0, (eqb (getD s (ownerOffset + c) 0) 1, eqb (getD s (validOffset + c) 0) 1)))
+    (λ v s. set (set (set s c (v .0)) (ownerOffset + c) (toℕ (v .1 .0))) (validOffset + c) (toℕ (v .1 .1)))
     (λ s. λ i. (
-      getD-take 16 s c 0 (omega arith) i,
+      getD-take laneSize s c 0 (omega arith) i,
       (
-        eqb ((getD-take 32 (drop 16 s) c 0 (omega arith) ∙ getD-drop 16 s c 0) i) 1,
-        eqb ((getD-take 32 (drop 16 s) (16 + c) 0 (omega arith) ∙ getD-drop 16 s (16 + c) 0 ∙ ap (λ (k : ℕ). getD s k 0) (let e : 16 + (16 + c) ≡ 32 + c = omega arith in e)) i) 1,
+        eqb ((getD-take (2 * laneSize) (drop laneSize s) c 0 (omega arith) ∙ getD-drop laneSize s c 0) i) 1,
+        eqb ((getD-take (2 * laneSize) (drop laneSize s) (ownerOffset + c) 0 (omega arith) ∙ getD-drop laneSize s (ownerOffset + c) 0 ∙ ap (λ (k : ℕ). getD s k 0) (let e : laneSize + (ownerOffset + c) ≡ validOffset + c = omega arith in e)) i) 1,
       ),
     ))
     (λ v s l.
-    set-first 16 32 s (λ t. set (set t (16 + c) (toℕ (v .1 .1))) c (toℕ (v .1 .0))) c (v .0) (omega arith) (omega arith)
+    set-first laneSize (2 * laneSize) s (λ t. set (set t (ownerOffset + c) (toℕ (v .1 .1))) c (toℕ (v .1 .0))) c (v .0) (omega arith) (omega arith)
     ∙ ap (λ (t : List ℕ). set t c (v .0))
-    (over-set 16 32 s l (λ t. set t (16 + c) (toℕ (v .1 .1))) c (toℕ (v .1 .0)) (length-set (slice 16 32 s) (16 + c) (toℕ (v .1 .1))) (omega arith)
-    ∙ ap (λ (t : List ℕ). set t (16 + c) (toℕ (v .1 .0)))
-    (over-set 16 32 s l (λ t. t) (16 + c) (toℕ (v .1 .1)) refl (omega arith)
-    ∙ (λ i. set (over-none 16 32 s l i) (let e : 16 + (16 + c) ≡ 32 + c = omega arith in e i) (toℕ (v .1 .1)))))
-    ∙ ap (λ (t : List ℕ). set t c (v .0)) (set-comm s (32 + c) (16 + c) (toℕ (v .1 .1)) (toℕ (v .1 .0)) (λ e. omega arith))
-    ∙ set-comm (set s (16 + c) (toℕ (v .1 .0))) (32 + c) c (toℕ (v .1 .1)) (v .0) (λ e. omega arith)
-    ∙ ap (λ (t : List ℕ). set t (32 + c) (toℕ (v .1 .1))) (set-comm s (16 + c) c (toℕ (v .1 .0)) (v .0) (λ e. omega arith)))
+    (over-set laneSize (2 * laneSize) s l (λ t. set t (ownerOffset + c) (toℕ (v .1 .1))) c (toℕ (v .1 .0)) (length-set (slice laneSize (2 * laneSize) s) (ownerOffset + c) (toℕ (v .1 .1))) (omega arith)
+    ∙ ap (λ (t : List ℕ). set t (ownerOffset + c) (toℕ (v .1 .0)))
+    (over-set laneSize (2 * laneSize) s l (λ t. t) (ownerOffset + c) (toℕ (v .1 .1)) refl (omega arith)
+    ∙ (λ i. set (over-none laneSize (2 * laneSize) s l i) (let e : laneSize + (ownerOffset + c) ≡ validOffset + c = omega arith in e i) (toℕ (v .1 .1)))))
+    ∙ ap (λ (t : List ℕ). set t c (v .0)) (set-comm s (validOffset + c) (ownerOffset + c) (toℕ (v .1 .1)) (toℕ (v .1 .0)) (λ e. omega arith))
+    ∙ set-comm (set s (ownerOffset + c) (toℕ (v .1 .0))) (validOffset + c) c (toℕ (v .1 .1)) (v .0) (λ e. omega arith)
+    ∙ ap (λ (t : List ℕ). set t (validOffset + c) (toℕ (v .1 .1))) (set-comm s (ownerOffset + c) c (toℕ (v .1 .0)) (v .0) (λ e. omega arith)))
   where
     flags-length : (t : List ℕ) → length (zipped (lane flag (suc n)) (lane flag (suc n)) .read t) ≡ suc n
     flags-length t =
-        zip-length (lane flag (suc n) .read (take 16 t)) (lane flag (suc n) .read (slice 16 16 t))
-        (length-lane flag (suc n) (take 16 t) ∙ sym (length-lane flag (suc n) (slice 16 16 t)))
-        ∙ length-lane flag (suc n) (take 16 t)
+        zip-length (lane flag (suc n) .read (take laneSize t)) (lane flag (suc n) .read (slice laneSize laneSize t))
+        (length-lane flag (suc n) (take laneSize t) ∙ sym (length-lane flag (suc n) (slice laneSize laneSize t)))
+        ∙ length-lane flag (suc n) (take laneSize t)
 
     flags : Spread {B = Bool × Bool} (zipped (lane flag (suc n)) (lane flag (suc n))) (λ l. getD l c (false, false)) (λ v l. set l c v)
-        (λ s. (eqb (getD s c 0) 1, eqb (getD s (16 + c) 0) 1)) (λ v s. set (set s (16 + c) (toℕ (v .1))) c (toℕ (v .0)))
+        (λ s. (eqb (getD s c 0) 1, eqb (getD s (ownerOffset + c) 0) 1)) (λ v s. set (set s (ownerOffset + c) (toℕ (v .1))) c (toℕ (v .0)))
     flags =
         spread-as
         (spread-zipped (λ s t. length-lane flag (suc n) s ∙ sym (length-lane flag (suc n) t)) c false false (spread-flag (suc n) (suc-le-suc h) c (suc-le-suc hc)) (spread-flag (suc n) (suc-le-suc h) c (suc-le-suc hc)))
-        (λ s. (eqb (getD s c 0) 1, eqb (getD s (16 + c) 0) 1)) (λ v s. set (set s (16 + c) (toℕ (v .1))) c (toℕ (v .0)))
-        (λ s. λ i. (eqb (getD-take 16 s c 0 (omega arith) i) 1, eqb ((getD-take 16 (drop 16 s) c 0 (omega arith) ∙ getD-drop 16 s c 0) i) 1))
+        (λ s. (eqb (getD s c 0) 1, eqb (getD s (ownerOffset + c) 0) 1)) (λ v s. set (set s (ownerOffset + c) (toℕ (v .1))) c (toℕ (v .0)))
+        (λ s. λ i. (eqb (getD-take laneSize s c 0 (omega arith) i) 1, eqb ((getD-take laneSize (drop laneSize s) c 0 (omega arith) ∙ getD-drop laneSize s c 0) i) 1))
         (λ v s l.
-        set-first 16 16 s (λ t. set t c (toℕ (v .1))) c (toℕ (v .0)) (omega arith) (omega arith)
-        ∙ ap (λ (t : List ℕ). set t c (toℕ (v .0))) (over-set 16 16 s l (λ t. t) c (toℕ (v .1)) refl (omega arith) ∙ ap (λ (t : List ℕ). set t (16 + c) (toℕ (v .1))) (over-none 16 16 s l)))
+        set-first laneSize laneSize s (λ t. set t c (toℕ (v .1))) c (toℕ (v .0)) (omega arith) (omega arith)
+        ∙ ap (λ (t : List ℕ). set t c (toℕ (v .0))) (over-set laneSize laneSize s l (λ t. t) c (toℕ (v .1)) refl (omega arith) ∙ ap (λ (t : List ℕ). set t (ownerOffset + c) (toℕ (v .1))) (over-none laneSize laneSize s l)))
 
 -- three bytes set in the first k
 front-three : (k : ℕ) (s : List ℕ) → k ≤ length s → (a b c x y z : ℕ) → a < k → b < k → c < k
@@ -187,7 +187,7 @@ module _ (n : ℕ) (h : n ≤ 15) where
 
   -- as many tokens as words
   as-many : (s : List ℕ) → length (raw .read s .0) ≡ length (raw .read s .1 .1)
-  as-many s = lanes-length n (take (tokenLanes n .size) (take claimsOffset s)) ∙ sym (length-readItems words (suc n) (slice claimsRoom (16 * words .size) (slice claimsOffset (claimsRoom + 16 * words .size) s)))
+  as-many s = lanes-length n (take (tokenLanes n .size) (take claimsOffset s)) ∙ sym (length-readItems words (suc n) (slice claimsRoom (laneSize * words .size) (slice claimsOffset (claimsRoom + laneSize * words .size) s)))
 
   -- ---- the claims
 
@@ -225,7 +225,7 @@ module _ (n : ℕ) (h : n ≤ 15) where
     words-here : Place (pair (blockClaims n) (blockWords n)) words (claimsRoom + c * words .size) (λ v. getD (v .1) c zeros) (λ ws v. (v .0, set (v .1) c ws))
     words-here =
         within (second (blockClaims n) (blockWords n) (block-claims-lawful n h) (block-words-lawful n h))
-        (item words words-lawful zeros 16 (suc n) c (suc-le-suc h) (suc-le-suc hc))
+        (item words words-lawful zeros laneSize (suc n) c (suc-le-suc h) (suc-le-suc hc))
 
     tokens-here : Spread {B = Tokens} (blockTokens n) (λ l. getD l c (0, (false, false))) (λ v l. set l c v)
         (λ s. (getD s c 0, (eqb (getD s (ownerOffset + c) 0) 1, eqb (getD s (validOffset + c) 0) 1)))
@@ -233,14 +233,14 @@ module _ (n : ℕ) (h : n ≤ 15) where
     tokens-here =
         let k : ℕ = tokenLanes n .size in
         spread-as (spread-within lanes-here (lanes-spread n h c hc))
-        (λ s. (getD s c 0, (eqb (getD s (16 + c) 0) 1, eqb (getD s (32 + c) 0) 1)))
-        (λ v s. set (set (set s c (v .0)) (16 + c) (toℕ (v .1 .0))) (32 + c) (toℕ (v .1 .1)))
+        (λ s. (getD s c 0, (eqb (getD s (ownerOffset + c) 0) 1, eqb (getD s (validOffset + c) 0) 1)))
+        (λ v s. set (set (set s c (v .0)) (ownerOffset + c) (toℕ (v .1 .0))) (validOffset + c) (toℕ (v .1 .1)))
         (λ s. λ i. (
           getD-take k s c 0 (omega (arith, lanes-size n)) i,
-          (eqb (getD-take k s (16 + c) 0 (omega (arith, lanes-size n)) i) 1, eqb (getD-take k s (32 + c) 0 (omega (arith, lanes-size n)) i) 1),
+          (eqb (getD-take k s (ownerOffset + c) 0 (omega (arith, lanes-size n)) i) 1, eqb (getD-take k s (validOffset + c) 0 (omega (arith, lanes-size n)) i) 1),
         ))
         (λ v s l.
-        front-three k s (omega (arith, lanes-size n, l)) c (16 + c) (32 + c) (v .0) (toℕ (v .1 .0)) (toℕ (v .1 .1)) (omega (arith, lanes-size n)) (omega (arith, lanes-size n)) (omega (arith, lanes-size n)))
+        front-three k s (omega (arith, lanes-size n, l)) c (ownerOffset + c) (validOffset + c) (v .0) (toℕ (v .1 .0)) (toℕ (v .1 .1)) (omega (arith, lanes-size n)) (omega (arith, lanes-size n)) (omega (arith, lanes-size n)))
 
     -- its tokens: three bytes, one in each lane
     pub tokens-spread : Spread (block n) (λ k. cellTokens (getD (k .cells) c noCell)) (withTokens c)
@@ -250,10 +250,10 @@ module _ (n : ℕ) (h : n ≤ 15) where
     tokens-spread =
         spread-iso
         (spread-as (spread-within (first (blockTokens n) (pair (blockClaims n) (blockWords n)) (block-tokens-lawful n h) rest-lawful) tokens-here)
-        (λ s. (getD s c 0, (eqb (getD s (16 + c) 0) 1, eqb (getD s (32 + c) 0) 1)))
-        (λ v s. set (set (set s c (v .0)) (16 + c) (toℕ (v .1 .0))) (32 + c) (toℕ (v .1 .1)))
-        (λ s. λ i. (getD-take claimsOffset s c 0 (omega arith) i, (eqb (getD-take claimsOffset s (16 + c) 0 (omega arith) i) 1, eqb (getD-take claimsOffset s (32 + c) 0 (omega arith) i) 1)))
-        (λ v s l. front-three claimsOffset s (omega arith) c (16 + c) (32 + c) (v .0) (toℕ (v .1 .0)) (toℕ (v .1 .1)) (omega arith) (omega arith) (omega arith)))
+        (λ s. (getD s c 0, (eqb (getD s (ownerOffset + c) 0) 1, eqb (getD s (validOffset + c) 0) 1)))
+        (λ v s. set (set (set s c (v .0)) (ownerOffset + c) (toℕ (v .1 .0))) (validOffset + c) (toℕ (v .1 .1)))
+        (λ s. λ i. (getD-take claimsOffset s c 0 (omega arith) i, (eqb (getD-take claimsOffset s (ownerOffset + c) 0 (omega arith) i) 1, eqb (getD-take claimsOffset s (validOffset + c) 0 (omega arith) i) 1)))
+        (λ v s l. front-three claimsOffset s (omega arith) c (ownerOffset + c) (validOffset + c) (v .0) (toℕ (v .1 .0)) (toℕ (v .1 .1)) (omega arith) (omega arith) (omega arith)))
         toBlock fromBlock (λ k. cellTokens (getD (k .cells) c noCell)) (withTokens c)
         (λ s. ap cellTokens (cell-of s))
         (λ v s. λ i. (
@@ -283,25 +283,25 @@ module _ (n : ℕ) (h : n ≤ 15) where
 
     -- both: the cell
     pub cell-spread : Spread {B = Tokens × List ℕ} (block n) (λ k. (cellTokens (getD (k .cells) c noCell), getD (k .cells) c noCell .words)) (λ v. withCellOf c (toCell v))
-        (λ s. ((getD s c 0, (eqb (getD s (ownerOffset + c) 0) 1, eqb (getD s (validOffset + c) 0) 1)), words .read (slice (wordsOffset + wordsSize * c) 32 s)))
-        (λ v s. modifyAt (wordsOffset + wordsSize * c) 32 (words .write (v .1)) (set (set (set s c (v .0 .0)) (ownerOffset + c) (toℕ (v .0 .1 .0))) (validOffset + c) (toℕ (v .0 .1 .1))))
+        (λ s. ((getD s c 0, (eqb (getD s (ownerOffset + c) 0) 1, eqb (getD s (validOffset + c) 0) 1)), words .read (slice (wordsOffset + wordsSize * c) wordsSize s)))
+        (λ v s. modifyAt (wordsOffset + wordsSize * c) wordsSize (words .write (v .1)) (set (set (set s c (v .0 .0)) (ownerOffset + c) (toℕ (v .0 .1 .0))) (validOffset + c) (toℕ (v .0 .1 .1))))
     unfolding block
     cell-spread =
         spread-iso
         (spread-as (spread-pair tokens-here (spread-place words-here))
-        (λ s. ((getD s c 0, (eqb (getD s (16 + c) 0) 1, eqb (getD s (32 + c) 0) 1)), words .read (slice (wordsOffset + 32 * c) 32 s)))
-        (λ v s. modifyAt (wordsOffset + 32 * c) 32 (words .write (v .1)) (set (set (set s c (v .0 .0)) (16 + c) (toℕ (v .0 .1 .0))) (32 + c) (toℕ (v .0 .1 .1))))
+        (λ s. ((getD s c 0, (eqb (getD s (ownerOffset + c) 0) 1, eqb (getD s (validOffset + c) 0) 1)), words .read (slice (wordsOffset + wordsSize * c) wordsSize s)))
+        (λ v s. modifyAt (wordsOffset + wordsSize * c) wordsSize (words .write (v .1)) (set (set (set s c (v .0 .0)) (ownerOffset + c) (toℕ (v .0 .1 .0))) (validOffset + c) (toℕ (v .0 .1 .1))))
         (λ s. λ i. (
-          (getD-take claimsOffset s c 0 (omega arith) i, (eqb (getD-take claimsOffset s (16 + c) 0 (omega arith) i) 1, eqb (getD-take claimsOffset s (32 + c) 0 (omega arith) i) 1)),
+          (getD-take claimsOffset s c 0 (omega arith) i, (eqb (getD-take claimsOffset s (ownerOffset + c) 0 (omega arith) i) 1, eqb (getD-take claimsOffset s (validOffset + c) 0 (omega arith) i) 1)),
           (ap (words .read) (part-part claimsOffset m (claimsRoom + c * z) z s (words-here .inside)) ∙ (λ j. words .read (slice (claimsOffset + (claimsRoom + c * words-size j)) (words-size j) s))
-              ∙ ap (λ (k : ℕ). words .read (slice k 32 s)) far) i,
+              ∙ ap (λ (k : ℕ). words .read (slice k wordsSize s)) far) i,
         ))
         (λ v s l.
         over-both (three v) (modifyAt (claimsRoom + c * z) z (words .write (v .1))) claimsOffset m s (same-three v (take claimsOffset s)) l
         ∙ over-over (words .write (v .1)) claimsOffset m (claimsRoom + c * z) z (three v (take claimsOffset s) ++ drop claimsOffset s) (words-here .inside)
         ∙ (λ j. modifyAt (claimsOffset + (claimsRoom + c * words-size j)) (words-size j) (words .write (v .1))
-        (front-three claimsOffset s (omega arith) c (16 + c) (32 + c) (v .0 .0) (toℕ (v .0 .1 .0)) (toℕ (v .0 .1 .1)) (omega arith) (omega arith) (omega arith) j))
-        ∙ ap (λ (k : ℕ). modifyAt k 32 (words .write (v .1)) (three v s)) far))
+        (front-three claimsOffset s (omega arith) c (ownerOffset + c) (validOffset + c) (v .0 .0) (toℕ (v .0 .1 .0)) (toℕ (v .0 .1 .1)) (omega arith) (omega arith) (omega arith) j))
+        ∙ ap (λ (k : ℕ). modifyAt k wordsSize (words .write (v .1)) (three v s)) far))
         toBlock fromBlock (λ k. (cellTokens (getD (k .cells) c noCell), getD (k .cells) c noCell .words)) (λ v. withCellOf c (toCell v))
         (λ s. λ i. (cellTokens (cell-of s i), cell-of s i .words))
         (λ v s. λ i. (set-tokens s (toCell v) i, (raw .read s .1 .0, set-words s (toCell v) i)))
@@ -310,13 +310,13 @@ module _ (n : ℕ) (h : n ≤ 15) where
         z = words .size
 
         m : ℕ
-        m = claimsRoom + 16 * z
+        m = claimsRoom + laneSize * z
 
-        far : claimsOffset + (claimsRoom + c * 32) ≡ wordsOffset + 32 * c
+        far : claimsOffset + (claimsRoom + c * wordsSize) ≡ wordsOffset + wordsSize * c
         far = omega arith
 
         three : Tokens × List ℕ → List ℕ → List ℕ
-        three v t = set (set (set t c (v .0 .0)) (16 + c) (toℕ (v .0 .1 .0))) (32 + c) (toℕ (v .0 .1 .1))
+        three v t = set (set (set t c (v .0 .0)) (ownerOffset + c) (toℕ (v .0 .1 .0))) (validOffset + c) (toℕ (v .0 .1 .1))
 
         same-three : (v : Tokens × List ℕ) (t : List ℕ) → length (three v t) ≡ length t
         same-three v t = simp length-set

@@ -1,3 +1,2 @@
 pub mod FieldParsing
 pub mod BodyParsing
-pub mod Framing

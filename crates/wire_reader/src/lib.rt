@@ -1,7 +1,6 @@
 // The parser of step records. spec_wire's Reader specifies the result for every input.
-// order: body, message_body, frames, lib
+// order: body, message_body, lib
 pub mod body;
-pub mod frames;
 pub mod message_body;
 
 ghost use mathlib.Core.Path.{_≡_};

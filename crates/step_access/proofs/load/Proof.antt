@@ -62,7 +62,8 @@ word-requires c κs =
     let c7 = c .before .before .before .before .before .before .before in
     let c8 = c7 .before in
     let s = c8 .before .before in
-    on-word _ (s .pre .whole) _ _ _ (c8 .off-rack-word .ensures) (c7 .if1 .left)
+    let known = on-word (s .args .rec .now) (s .pre .whole) (s .args .component) (s .args .block) (s .args .word) (c8 .off-rack-word .ensures) (c7 .if1 .left) in
+    (known .0, omega (arith, known .1))
 
 returns-5 : tie.Need-returns-5
 unfolding answer

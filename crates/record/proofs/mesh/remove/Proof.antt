@@ -1,10 +1,12 @@
 -- `record::mesh::remove` meets its contract: the messages behind move up, and the count.
-use lib.ListN.{getD, set}
+use lib.ListN.{set}
 use mathlib.Core.List.{List}
-use Prim.Native.Nat.{ℕ, _-_}
+use Prim.Native.Nat.{ℕ, _+_, _*_, _-_}
 use mathlib.Core.Path.{ap, _∙_}
 use Rattle.record.proofs.FieldAccess.{wellFormed}
 use Rattle.record.proofs.FieldOffsets.{removed-put}
+use Rattle.spec_base.specs.Layout.{slice, modifyAt}
+use Rattle.spec_rack.specs.RecordLayout.{messageCountOffset, messageSize, messagesIn}
 use borrow.Author.Needs.{needs}
 use Rattle.record.proofs.mesh.remove.Statement.{statement}
 use Rattle.record.proofs.mesh.remove.Tie as tie
@@ -18,11 +20,8 @@ sub-left c = search needs
 sub-behind : tie.Need-sub-behind
 sub-behind c = search needs
 
-mul-at : tie.Need-mul-at
-mul-at c = search needs
-
-add-at : tie.Need-add-at
-add-at c = search needs
+message-offset-requires : tie.Need-message-offset-requires
+message-offset-requires c κs = search needs
 
 cast-bytes : tie.Need-cast-bytes
 cast-bytes c = search needs
@@ -40,10 +39,13 @@ same-length : tie.Need-same-length
 same-length c = search needs
 
 returns : tie.Need-returns
-returns c = let s = c .before .before .before .before .before .before in
+returns c = let s = c .before .before .before .before .before .before .before in
     let r = s .args .rec .now in
-    ap (λ (t : List ℕ). set t 3 (getD r 3 0 - 1)) (c .before .before .close-gap .ensures)
-    ∙ removed-put r (wellFormed r (λ k. c .before .before .before .before .before .slice-known .given k .fits) (s .pre .0)) (s .args .position) (s .pre .1)
+    let moved = messageSize * (messagesIn r - 1 - s .args .position) in
+    ap (λ (t : List ℕ). set t messageCountOffset (messagesIn r - 1))
+    (c .before .before .close-gap .ensures
+    ∙ ap (λ (at : ℕ). modifyAt at moved (λ t. slice (at + messageSize) moved r) r) (c .before .before .before .before .message-offset .ensures))
+    ∙ removed-put r (wellFormed r (λ k. c .before .before .before .before .before .before .slice-known .given k .fits) (s .pre .0)) (s .args .position) (s .pre .1)
 
 pub remove-spec : {M : Type 1} → statement M
 remove-spec =
@@ -52,8 +54,7 @@ remove-spec =
     slice-read-count
     sub-left
     sub-behind
-    mul-at
-    add-at
+    message-offset-requires
     cast-bytes
     mul-bytes
     close-gap-requires

@@ -1,8 +1,8 @@
--- `wire_reader::frames::frame_end` meets its contract: inside the list it is `cut`, and past it nothing is cut.
-use Rattle.wire_reader.proofs.Framing.{cut-past}
+-- `wire_frames::frame_end` meets its contract: inside the list it is `frame_end_within`, and past it nothing is cut.
+use Rattle.wire_frames.proofs.Framing.{cut-past}
 use borrow.Author.Needs.{needs}
-use Rattle.wire_reader.proofs.frames.frame_end.Statement.{statement}
-use Rattle.wire_reader.proofs.frames.frame_end.Tie as tie
+use Rattle.wire_frames.proofs.frame_end.Statement.{statement}
+use Rattle.wire_frames.proofs.frame_end.Tie as tie
 
 frame-end-within-requires : tie.Need-frame-end-within-requires
 frame-end-within-requires c κs = search needs

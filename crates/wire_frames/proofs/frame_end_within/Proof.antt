@@ -1,12 +1,12 @@
--- `wire_reader::frames::frame_end_within` meets its contract: a record ends where its length says, or with the list.
+-- `wire_frames::frame_end_within` meets its contract: a record ends where its length says, or with the list.
 use lib.ListN.{getD}
 use Prim.Native.Nat.{_+_, _*_}
 use mathlib.Core.Path.{_≡_}
 use native.Mathlib.Omega.{arith}
-use Rattle.wire_reader.proofs.Framing.{length-read, cut-few, cut-short, cut-whole}
+use Rattle.wire_frames.proofs.Framing.{length-read, cut-few, cut-short, cut-whole}
 use borrow.Author.Needs.{needs}
-use Rattle.wire_reader.proofs.frames.frame_end_within.Statement.{statement}
-use Rattle.wire_reader.proofs.frames.frame_end_within.Tie as tie
+use Rattle.wire_frames.proofs.frame_end_within.Statement.{statement}
+use Rattle.wire_frames.proofs.frame_end_within.Tie as tie
 
 sub-left : tie.Need-sub-left
 sub-left c = search needs
