@@ -155,6 +155,7 @@ fn edits(crates: &Crates, bad: &mut Vec<String>) -> String {
             }
             let mut edited: BTreeMap<String, String> = BTreeMap::new();
             let (mut file, mut old, mut pairs) = (String::new(), "", 0);
+            let mut unknown = BTreeSet::new();
             for line in edit.lines() {
                 if let Some(rest) = line.strip_prefix("file: ") {
                     file = rest.into();
@@ -167,6 +168,10 @@ fn edits(crates: &Crates, bad: &mut Vec<String>) -> String {
                     if found != 1 || old == new {
                         say(format!("its old text stands {found} times in {file} and must stand once and be changed: {old}"));
                     }
+                    if file.ends_with(".rt") {
+                        let known = |word: &str| body.contains(&format!("::{word};")) || body.contains(&format!("const {word}:"));
+                        unknown.extend(constants(new).filter(|word| !known(word)).map(String::from));
+                    }
                     *body = body.replacen(old, new, 1);
                     pairs += 1;
                 }
@@ -174,9 +179,19 @@ fn edits(crates: &Crates, bad: &mut Vec<String>) -> String {
             if pairs == 0 {
                 say("it has no old and new text".into());
             }
+            if !unknown.is_empty() {
+                say(format!("its new text has constants that its file does not import, so it would not reach the prover: {unknown:?}"));
+            }
         }
     }
     format!("edits: {count} must-fail edits, each fits its crate")
+}
+
+/// The constants that a text names without a path: words of capitals.
+fn constants(text: &str) -> impl Iterator<Item = &str> {
+    let part = |c: char| c.is_alphanumeric() || c == '_' || c == ':';
+    let capital = |c: char| c.is_ascii_uppercase() || c.is_ascii_digit() || c == '_';
+    text.split(move |c| !part(c)).filter(move |word| word.len() > 2 && word.starts_with(|c: char| c.is_ascii_uppercase()) && word.chars().all(capital))
 }
 
 /// Within a crate of several modules, `// order:` in lib.rt names them all, `lib` for itself, and each uses only those before it.

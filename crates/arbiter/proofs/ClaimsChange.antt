@@ -14,7 +14,7 @@ use Rattle.spec_base.proofs.Laws.{Stands, Lawful, cut, cut-second, cuts-length,
 use Rattle.spec_base.proofs.Places.{over-in}
 use Rattle.spec_rack.specs.Boards.{boardRoom, empty, insert, remove}
 use Rattle.spec_rack.specs.Claims.{Claims, waiting, barring, raised, lowered}
-use Rattle.spec_rack.specs.RecordLayout.{claims, setOffset, claimsAtOffset, putClaims, claimsSize}
+use Rattle.spec_rack.specs.RecordLayout.{claims, setOffset, claimsAtOffset, putClaims, claimsSize, waitingOffset}
 use Rattle.spec_base.proofs.Maps.{mapFirst, mapFirst-none, mapFirst-more, mapFirst-all}
 use Rattle.spec_rack.proofs.LayoutParts.{ClaimsFit, claims-size, claims-lawful}
 use Rattle.arbiter.proofs.SetBytes.{set-offset, set-place, length-claims, waiting-is}
@@ -128,7 +128,7 @@ module _ (n at : ℕ) (fits : n < boardRoom) (s₀ : List ℕ) (bytes : Bytes s�
   abbrev left : ℕ → Claims
   left k = leftFirst n at s₀ i k
 
-  pub raise-is : (w v : ℕ) (s : List ℕ) → w ≡ big 2 .read (slice (at + 32) 2 s₀) → v ≡ insert w i → v < 65536 → s ≡ modifyAt (at + 32) 2 (big 2 .write v) s₀
+  pub raise-is : (w v : ℕ) (s : List ℕ) → w ≡ big 2 .read (slice (at + waitingOffset) 2 s₀) → v ≡ insert w i → v < 65536 → s ≡ modifyAt (at + waitingOffset) 2 (big 2 .write v) s₀
       → s ≡ putClaims n at (raised c₀ i) s₀
   unfolding raised
   raise-is w v s ew ev small es =
@@ -154,8 +154,8 @@ module _ (n at : ℕ) (fits : n < boardRoom) (s₀ : List ℕ) (bytes : Bytes s�
       (subst (Stored n at s₀ (set (left k) (suc k) v)) (sym (es ∙ ap (λ (p : ℕ). modifyAt p 2 (big 2 .write v) s) there)) (stored-write n at fits s₀ bytes room form (left k) s (h .stored) (suc k) v l small))
 
   -- w is the waiting set; r is what is written over it, and q over the board's own barring set
-  pub lower-is : (w r q : ℕ) (s s₁ s₂ : List ℕ) → 1 ≤ i → i ≤ n → Lowering n at s₀ i n s → w ≡ big 2 .read (slice (at + 32) 2 s) → r ≡ remove w i → r < 65536 → q ≡ remove w i
-      → s₁ ≡ modifyAt (at + 32) 2 (big 2 .write r) s → s₂ ≡ modifyAt (at + 2 * i) 2 (big 2 .write q) s₁ → s₂ ≡ putClaims n at (lowered c₀ i) s₀
+  pub lower-is : (w r q : ℕ) (s s₁ s₂ : List ℕ) → 1 ≤ i → i ≤ n → Lowering n at s₀ i n s → w ≡ big 2 .read (slice (at + waitingOffset) 2 s) → r ≡ remove w i → r < 65536 → q ≡ remove w i
+      → s₁ ≡ modifyAt (at + waitingOffset) 2 (big 2 .write r) s → s₂ ≡ modifyAt (at + 2 * i) 2 (big 2 .write q) s₁ → s₂ ≡ putClaims n at (lowered c₀ i) s₀
   unfolding lowered
   lower-is w r q s s₁ s₂ low high h ew er small eq e₁ e₂ =
       let first : Stored n at s₀ (set (left n) 0 r) s₁ = subst (Stored n at s₀ (set (left n) 0 r)) (sym e₁) (stored-write n at fits s₀ bytes room form (left n) s (h .stored) 0 r (omega arith) small) in

@@ -15,7 +15,7 @@ use Rattle.spec_base.proofs.Tests.{same-test, and-l, and-r, and-of, and-left, a
 use Rattle.spec_base.proofs.Folds.{below-at, below-of, below-fails}
 use Rattle.spec_rack.specs.Boards.{boardRoom, member, empty, subset, boardsOnly}
 use Rattle.spec_rack.specs.Claims.{Claims, waiting, barring, soundBarring, soundClaims}
-use Rattle.spec_rack.specs.RecordLayout.{claims, claimsAtOffset, claimsSize}
+use Rattle.spec_rack.specs.RecordLayout.{claims, claimsAtOffset, claimsSize, waitingOffset}
 use Rattle.spec_rack.proofs.Boards.{subset-empty, boards-empty, boards-subset}
 use Rattle.arbiter.proofs.SetBytes.{length-claims, barring-is, claims-formed}
 use Rattle.spec_base.proofs.WordBytes.{read-two}
@@ -90,9 +90,9 @@ module _ (n : ℕ) (c : Claims) where
   sound-all l h = rw (h, eq-eqb (length c) (suc n) l)
 
 -- where the bytes of the barring sets are all 0 the claims are of their form, no board is barred, and the waiting set decides
-module _ (n at : ℕ) (s : List ℕ) (fits : n < boardRoom) (room : at + claimsSize ≤ length s) (h : allBelow 32 (λ i. eqb (getD s (at + i) 0) 0) ≡ true) where
-  zero-at : (k : ℕ) → k < 32 → getD s (at + k) 0 ≡ 0
-  zero-at k l = eqb-true _ _ (below-at (λ i. eqb (getD s (at + i) 0) 0) 32 h k l)
+module _ (n at : ℕ) (s : List ℕ) (fits : n < boardRoom) (room : at + claimsSize ≤ length s) (h : allBelow waitingOffset (λ i. eqb (getD s (at + i) 0) 0) ≡ true) where
+  zero-at : (k : ℕ) → k < waitingOffset → getD s (at + k) 0 ≡ 0
+  zero-at k l = eqb-true _ _ (below-at (λ i. eqb (getD s (at + i) 0) 0) waitingOffset h k l)
 
   none : (i : ℕ) → i < n → barring (claimsAtOffset n at s) (suc i) ≡ empty
   none i l =

@@ -22,7 +22,7 @@ use Rattle.spec_base.proofs.Padded.{zeroed-lawful, padded-place, zeros-formed, 
 use Rattle.spec_base.proofs.Lanes.{place-iso}
 use Rattle.spec_rack.specs.Boards.{boardRoom, empty}
 use Rattle.spec_rack.specs.Claims.{waiting, barring}
-use Rattle.spec_rack.specs.RecordLayout.{barringSets, toClaims, fromClaims, claims, setOffset, claimsAtOffset, claimsSize}
+use Rattle.spec_rack.specs.RecordLayout.{barringSets, toClaims, fromClaims, claims, setOffset, claimsAtOffset, claimsSize, waitingOffset}
 use Rattle.spec_rack.proofs.LayoutParts.{claims-size, sets-lawful}
 
 -- ---- a set among the claims
@@ -39,7 +39,7 @@ module _ (n : ℕ) (fits : n < boardRoom) where
   few = omega arith
 
   -- the waiting set, and the barring set of board suc i
-  waiting-place : Place (claims n) (big 2) 32 (λ c. waiting c) (λ v c. set c 0 v)
+  waiting-place : Place (claims n) (big 2) waitingOffset (λ c. waiting c) (λ v c. set c 0 v)
   unfolding claims barringSets
   waiting-place =
       place-iso
@@ -74,11 +74,11 @@ unfolding claims barringSets
 length-claims n at s = ap suc (length-readItems (big 2) n _)
 
 -- the waiting set, whatever the number of boards
-pub waiting-is : (n at : ℕ) (s : List ℕ) → big 2 .read (slice (at + 32) 2 s) ≡ waiting (claimsAtOffset n at s)
+pub waiting-is : (n at : ℕ) (s : List ℕ) → big 2 .read (slice (at + waitingOffset) 2 s) ≡ waiting (claimsAtOffset n at s)
 unfolding claims barringSets
 waiting-is n at s =
     ap (big 2 .read)
-    (sym (part-part 2 32 30 2 (slice at claimsSize s) (omega arith) ∙ part-part at claimsSize 32 2 s (omega arith)))
+    (sym (part-part 2 32 30 2 (slice at claimsSize s) (omega arith) ∙ part-part at claimsSize waitingOffset 2 s (omega arith)))
 
 -- the barring set of board i
 pub barring-is : (n at i : ℕ) (s : List ℕ) → n < boardRoom → 1 ≤ i → i ≤ n → big 2 .read (slice (at + 2 * i) 2 s) ≡ barring (claimsAtOffset n at s) i

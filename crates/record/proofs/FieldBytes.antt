@@ -14,7 +14,7 @@ use Rattle.spec_base.proofs.Folds.{below-of, below-same}
 use Rattle.spec_base.specs.Layout.{slice, byte, flag, big, pair, items, wellFormedItems, zeroed}
 use Rattle.spec_base.proofs.Laws.{length-readItems}
 use Rattle.spec_base.proofs.Places.{read-byte, read-pair, formed-below}
-use Rattle.spec_rack.specs.RecordLayout.{claims, messageSize, messageOffset, blockSize, blockOffset, claimsOffset, tokens, words, endpoints, messageHeader, toMessage, message, tokenLanes, block, header, rackLayout, layoutOf, blocksIn, boardsIn, claimsRoom, claimsSize, lanesSize, messagesIn, meshRoom, headerSize}
+use Rattle.spec_rack.specs.RecordLayout.{claims, messageSize, messageOffset, blockSize, blockOffset, claimsOffset, tokens, words, endpoints, messageHeader, toMessage, message, tokenLanes, block, header, rackLayout, layoutOf, blocksIn, boardsIn, claimsRoom, claimsSize, lanesSize, messagesIn, meshRoom, headerSize, targetOffset, messageBlockOffset, messagePlainOffset, messageOwnerOffset, dataOffset, messageZeroOffset, messageWordsOffset, wordsSize, laneSize}
 use Rattle.spec_rack.proofs.LayoutParts.{heading-size, words-size, message-size, lanes-size, claims-size, block-size, header-size, blockTokens, blockClaims, blockWords}
 use Rattle.record.proofs.FieldOffsets.{header-formed}
 use Rattle.spec_base.proofs.Padded.{formed-room, formed-zeroed, padded-read}
@@ -27,12 +27,12 @@ unfolding words
 words-eight t = length-readItems (big 4) 8 t
 
 -- the words are all 0 where all their bytes are
-pub words-zero : (s : List ℕ) (at : ℕ) → all (eqb 0) (words .read (slice at 32 s)) ≡ allBelow 32 (λ i. eqb (getD s (at + i) 0) 0)
+pub words-zero : (s : List ℕ) (at : ℕ) → all (eqb 0) (words .read (slice at wordsSize s)) ≡ allBelow wordsSize (λ i. eqb (getD s (at + i) 0) 0)
 unfolding words
 words-zero s at =
-    numbers-zero 4 8 (slice at 32 s)
-    ∙ below-same (λ i. eqb (getD (slice at 32 s) i 0) 0) (λ i. eqb (getD s (at + i) 0) 0) 32
-    (λ i l. ap (λ (n : ℕ). eqb n 0) (getD-take 32 (drop at s) i 0 l ∙ getD-drop at s i 0))
+    numbers-zero 4 8 (slice at wordsSize s)
+    ∙ below-same (λ i. eqb (getD (slice at wordsSize s) i 0) 0) (λ i. eqb (getD s (at + i) 0) 0) wordsSize
+    (λ i l. ap (λ (n : ℕ). eqb n 0) (getD-take wordsSize (drop at s) i 0 l ∙ getD-drop at s i 0))
 
 -- ---- bytes and state
 
@@ -49,31 +49,31 @@ module _ (s : List ℕ) where
 -- ---- a message at a place
 
 module _ (s : List ℕ) (at : ℕ) where
-  heading-read : messageHeader .read (slice at 8 s)
-      ≡ ((getD s at 0, (getD s (at + 1) 0, getD s (at + 2) 0)), (getD s (at + 3) 0, (eqb (getD s (at + 4) 0) 1, eqb (getD s (at + 5) 0) 1)))
+  heading-read : messageHeader .read (slice at messageWordsOffset s)
+      ≡ ((getD s at 0, (getD s (at + targetOffset) 0, getD s (at + messageBlockOffset) 0)), (getD s (at + messagePlainOffset) 0, (eqb (getD s (at + messageOwnerOffset) 0) 1, eqb (getD s (at + dataOffset) 0) 1)))
   unfolding messageHeader
   heading-read =
       padded-read 8 (pair endpoints tokens) (omega arith) at s zeroed
       ∙ read-pair endpoints tokens at s
       ∙ (λ i. (
         (read-pair byte (pair byte byte) at s
-            ∙ (λ j. (read-byte at s j, (read-pair byte byte (at + 1) s ∙ (λ k. (read-byte (at + 1) s k, byte-read s (at + 1 + 1) (at + 2) (omega arith) k))) j))) i,
-        (read-pair byte (pair flag flag) (at + 3) s
+            ∙ (λ j. (read-byte at s j, (read-pair byte byte (at + targetOffset) s ∙ (λ k. (read-byte (at + targetOffset) s k, byte-read s (at + 1 + 1) (at + messageBlockOffset) (omega arith) k))) j))) i,
+        (read-pair byte (pair flag flag) (at + messagePlainOffset) s
             ∙ (λ j. (
-              read-byte (at + 3) s j,
-              (read-pair flag flag (at + 3 + 1) s ∙ (λ k. (flag-read s (at + 3 + 1) (at + 4) (omega arith) k, flag-read s (at + 3 + 1 + 1) (at + 5) (omega arith) k))) j,
+              read-byte (at + messagePlainOffset) s j,
+              (read-pair flag flag (at + 3 + 1) s ∙ (λ k. (flag-read s (at + 3 + 1) (at + messageOwnerOffset) (omega arith) k, flag-read s (at + 3 + 1 + 1) (at + dataOffset) (omega arith) k))) j,
             ))) i,
       ))
 
   pub message-read : message .read (slice at messageSize s)
       ≡ record {
         sender = getD s at 0;
-        target = getD s (at + 1) 0;
-        block = getD s (at + 2) 0;
-        plain = getD s (at + 3) 0;
-        owner = eqb (getD s (at + 4) 0) 1;
-        «data» = eqb (getD s (at + 5) 0) 1;
-        words = words .read (slice (at + 8) 32 s);
+        target = getD s (at + targetOffset) 0;
+        block = getD s (at + messageBlockOffset) 0;
+        plain = getD s (at + messagePlainOffset) 0;
+        owner = eqb (getD s (at + messageOwnerOffset) 0) 1;
+        «data» = eqb (getD s (at + dataOffset) 0) 1;
+        words = words .read (slice (at + messageWordsOffset) wordsSize s);
       }
   unfolding message
   message-read =
@@ -81,21 +81,21 @@ module _ (s : List ℕ) (at : ℕ) where
       ((λ i. pair messageHeader words .read (slice at (sym heading-size i + sym words-size i) s))
       ∙ read-pair messageHeader words at s
       ∙ (λ i. (messageHeader .read (slice at (heading-size i) s), words .read (slice (at + heading-size i) (words-size i) s)))
-      ∙ (λ i. (heading-read i, words .read (slice (at + 8) 32 s))))
+      ∙ (λ i. (heading-read i, words .read (slice (at + messageWordsOffset) wordsSize s))))
 
   -- the owner's mark and data are state, and the two bytes behind them are 0
-  pub message-formed : message .wellFormed (slice at messageSize s) ≡ ((ltb (getD s (at + 4) 0) 2 && ltb (getD s (at + 5) 0) 2) && allBelow 2 (λ i. eqb (getD s (at + 6 + i) 0) 0))
+  pub message-formed : message .wellFormed (slice at messageSize s) ≡ ((ltb (getD s (at + messageOwnerOffset) 0) 2 && ltb (getD s (at + dataOffset) 0) 2) && allBelow 2 (λ i. eqb (getD s (at + messageZeroOffset + i) 0) 0))
   unfolding message messageHeader words
   message-formed =
       formed-pair messageHeader words at s
-      ∙ (λ i. messageHeader .wellFormed (slice at 8 s) && words-formed (slice (at + 8) 32 s) i)
-      ∙ and-true (messageHeader .wellFormed (slice at 8 s))
+      ∙ (λ i. messageHeader .wellFormed (slice at messageWordsOffset s) && words-formed (slice (at + messageWordsOffset) wordsSize s) i)
+      ∙ and-true (messageHeader .wellFormed (slice at messageWordsOffset s))
       ∙ formed-zeroed 8 (pair endpoints tokens) (omega arith) at s
-      ∙ ap (λ (t : Bool). t && allBelow 2 (λ i. eqb (getD s (at + 6 + i) 0) 0))
+      ∙ ap (λ (t : Bool). t && allBelow 2 (λ i. eqb (getD s (at + messageZeroOffset + i) 0) 0))
       (formed-pair endpoints tokens at s
-      ∙ formed-pair byte (pair flag flag) (at + 3) s
+      ∙ formed-pair byte (pair flag flag) (at + messagePlainOffset) s
       ∙ formed-pair flag flag (at + 3 + 1) s
-      ∙ (λ i. flag-formed s (at + 3 + 1) (at + 4) (omega arith) i && flag-formed s (at + 3 + 1 + 1) (at + 5) (omega arith) i))
+      ∙ (λ i. flag-formed s (at + 3 + 1) (at + messageOwnerOffset) (omega arith) i && flag-formed s (at + 3 + 1 + 1) (at + dataOffset) (omega arith) i))
     where
       words-formed : (t : List ℕ) → wellFormedItems (big 4) 8 t ≡ true
       words-formed t = formed-below (big 4) 8 t ∙ below-of (λ i. true) 8 (λ i l. refl)
@@ -115,7 +115,7 @@ module _ (s : List ℕ) where
       ∙ (λ i.
       (formed-room claimsOffset (tokenLanes n) (rw (lanes-size n) (omega arith)) at s ∙ ap (λ (z : ℕ). tokenLanes n .wellFormed (slice at z s)) (lanes-size n)) i
       && (formed-pair (blockClaims n) (blockWords n) (at + claimsOffset) s
-      ∙ (λ j. blockClaims n .wellFormed (slice (at + claimsOffset) claimsRoom s) && all-words n (slice (at + claimsOffset + claimsRoom) (16 * words .size) s) j)
+      ∙ (λ j. blockClaims n .wellFormed (slice (at + claimsOffset) claimsRoom s) && all-words n (slice (at + claimsOffset + claimsRoom) (laneSize * words .size) s) j)
       ∙ and-true (blockClaims n .wellFormed (slice (at + claimsOffset) claimsRoom s))
       ∙ formed-room claimsRoom (claims n) (rw (claims-size n) (omega arith)) (at + claimsOffset) s ∙ ap (λ (z : ℕ). claims n .wellFormed (slice (at + claimsOffset) z s)) (claims-size n)) i)
     where

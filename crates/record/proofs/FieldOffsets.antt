@@ -23,7 +23,7 @@ use Rattle.spec_rack.specs.Rack.{Block, noCell, noBlock, noMessage, blockAt, ce
 use Rattle.spec_rack.specs.Rules.{withClaims}
 use Rattle.record.specs.Changes.{withMesh, replaceCell}
 use Rattle.spec_rack.proofs.LayoutParts.{BlockFits, words-size, claims-size, message-size, header-size, message-lawful, message-full, header-lawful}
-use Rattle.spec_rack.proofs.GetPut.{count-write, mesh-place, claims-place, words-place, withWords, tokens-spread, cell-spread, Formed, law, boards-is, blocks-is, tokens-is, mesh-is, stands, read-figure, write-figure, stands-figure, read-spread, write-spread}
+use Rattle.spec_rack.proofs.GetPut.{withLaneTokens, count-write, mesh-place, claims-place, words-place, withWords, tokens-spread, cell-spread, Formed, law, boards-is, blocks-is, tokens-is, mesh-is, stands, read-figure, write-figure, stands-figure, read-spread, write-spread}
 
 -- the header is of its form whatever it holds
 pub header-formed : (s : List ℕ) → header .wellFormed s ≡ true
@@ -51,10 +51,7 @@ module _ (s : List ℕ) (ok : Formed s) where
     valid-there = omega arith
 
     -- three bytes, one in each lane
-    abbrev three : Tokens → List ℕ → List ℕ
-    three v t = set (set (set t c (v .0)) (ownerOffset + c) (toℕ (v .1 .0))) (validOffset + c) (toℕ (v .1 .1))
-
-    three-there : (v : Tokens) → modifyAt (blockOffset b) blockSize (three v) s ≡ set (set (set s at (v .0)) (at + ownerOffset) (toℕ (v .1 .0))) (at + validOffset) (toℕ (v .1 .1))
+    three-there : (v : Tokens) → modifyAt (blockOffset b) blockSize (withLaneTokens c v) s ≡ set (set (set s at (v .0)) (at + ownerOffset) (toℕ (v .1 .0))) (at + validOffset) (toℕ (v .1 .1))
     three-there v =
         over-three (blockOffset b) blockSize s inside c (ownerOffset + c) (validOffset + c) (v .0) (toℕ (v .1 .0)) (toℕ (v .1 .1)) (omega (arith, known)) (omega (arith, known)) (omega (arith, known))
         ∙ (λ i. set (set (set s (sym e i) (v .0)) (owner-there i) (toℕ (v .1 .0))) (valid-there i) (toℕ (v .1 .1)))
@@ -78,7 +75,7 @@ module _ (s : List ℕ) (ok : Formed s) where
         ≡ modifyAt (blockOffset b + (wordsOffset + wordsSize * c)) wordsSize (words .write ws) (set (set (set s at (v .0)) (at + ownerOffset) (toℕ (v .1 .0))) (at + validOffset) (toℕ (v .1 .1)))
     cell-put v ws =
         write-spread s ok (cell-spread (boardsIn s) (ok .boards) c hc) b hb (v, ws)
-        ∙ sym (over-in (words .write ws) (three v) (blockOffset b) blockSize (wordsOffset + wordsSize * c) wordsSize s (simp length-set) inside (omega (arith, known)))
+        ∙ sym (over-in (words .write ws) (withLaneTokens c v) (blockOffset b) blockSize (wordsOffset + wordsSize * c) wordsSize s (simp length-set) inside (omega (arith, known)))
         ∙ ap (modifyAt (blockOffset b + (wordsOffset + wordsSize * c)) wordsSize (words .write ws)) (three-there v)
 
   -- as many cells as components

@@ -15,7 +15,7 @@ use Rattle.spec_base.proofs.Laws.{byte-lawful, flag-lawful, pair-lawful, cuts-l
 use Rattle.spec_base.proofs.Places.{read-byte, write-byte, read-pair, write-pair}
 use Rattle.spec_base.proofs.WordBytes.{cover-first, cover-none}
 use Rattle.spec_rack.specs.declared.Message.{Message}
-use Rattle.spec_rack.specs.RecordLayout.{Tokens, tokens, words, Endpoints, endpoints, messageHeader, fromMessage, message, messageSize}
+use Rattle.spec_rack.specs.RecordLayout.{Tokens, tokens, words, Endpoints, endpoints, messageHeader, fromMessage, message, messageSize, targetOffset, messageBlockOffset, messagePlainOffset, messageZeroOffset, messageLastZeroOffset, messageWordsOffset, wordsSize}
 use Rattle.spec_rack.proofs.LayoutParts.{ends-lawful, tokens-lawful, heading-lawful, heading-size, words-size}
 
 -- ---- read
@@ -70,28 +70,28 @@ zeros-write p s l =
 
 -- sender, target, block and tokens, and the two bytes behind them
 heading-write : (p : ℕ) (v : Endpoints × Tokens) (s : List ℕ) → p + 8 ≤ length s
-    → set (set (modifyAt (p + 3) 3 (tokens .write (v .1)) (modifyAt p 3 (endpoints .write (v .0)) s)) (p + 6) 0) (p + 7) 0 ≡ modifyAt p 8 (messageHeader .write v) s
+    → set (set (modifyAt (p + messagePlainOffset) 3 (tokens .write (v .1)) (modifyAt p 3 (endpoints .write (v .0)) s)) (p + messageZeroOffset) 0) (p + messageLastZeroOffset) 0 ≡ modifyAt p messageWordsOffset (messageHeader .write v) s
 unfolding messageHeader
 heading-write p v s l =
     let s₁ : List ℕ = modifyAt p 3 (endpoints .write (v .0)) s in
-    let s₂ : List ℕ = modifyAt (p + 3) 3 (tokens .write (v .1)) s₁ in
+    let s₂ : List ℕ = modifyAt (p + messagePlainOffset) 3 (tokens .write (v .1)) s₁ in
     let l₁ : length s₁ ≡ length s = over-length p 3 (endpoints .write (v .0)) s (ends-lawful .keeps (v .0) (slice p 3 s)) in
-    let l₂ : length s₂ ≡ length s₁ = over-length (p + 3) 3 (tokens .write (v .1)) s₁ (tokens-lawful .keeps (v .1) (slice (p + 3) 3 s₁)) in
+    let l₂ : length s₂ ≡ length s₁ = over-length (p + messagePlainOffset) 3 (tokens .write (v .1)) s₁ (tokens-lawful .keeps (v .1) (slice (p + messagePlainOffset) 3 s₁)) in
     let p₇ : p + 7 ≡ p + 6 + 1 = omega arith in
-    ap (λ (q : ℕ). set (set s₂ (p + 6) 0) q 0) p₇
-    ∙ zeros-write (p + 6) s₂ (omega arith)
-    ∙ ap (modifyAt (p + 6) 2 (zeroed 2 .write tt)) (sym (write-pair endpoints tokens p s ends-lawful v (omega arith)))
+    ap (λ (q : ℕ). set (set s₂ (p + messageZeroOffset) 0) q 0) p₇
+    ∙ zeros-write (p + messageZeroOffset) s₂ (omega arith)
+    ∙ ap (modifyAt (p + messageZeroOffset) 2 (zeroed 2 .write tt)) (sym (write-pair endpoints tokens p s ends-lawful v (omega arith)))
     ∙ sym (write-pair (pair endpoints tokens) (zeroed 2) p s (pair-lawful endpoints tokens ends-lawful tokens-lawful) (v, tt) l)
 
 pub message-write : (p : ℕ) (m : Message) (s : List ℕ) → p + messageSize ≤ length s
-    → modifyAt (p + 8) 32 (words .write (m .words))
-    (set (set (modifyAt (p + 3) 3 (tokens .write (m .plain, (m .owner, m .«data»))) (set (set (set s p (m .sender)) (p + 1) (m .target)) (p + 2) (m .block))) (p + 6) 0) (p + 7) 0)
+    → modifyAt (p + messageWordsOffset) wordsSize (words .write (m .words))
+    (set (set (modifyAt (p + messagePlainOffset) 3 (tokens .write (m .plain, (m .owner, m .«data»))) (set (set (set s p (m .sender)) (p + targetOffset) (m .target)) (p + messageBlockOffset) (m .block))) (p + messageZeroOffset) 0) (p + messageLastZeroOffset) 0)
     ≡ modifyAt p messageSize (message .write m) s
 unfolding message
 message-write p m s l =
     let v : Endpoints × Tokens = fromMessage m .0 in
-    ap (λ (t : List ℕ). modifyAt (p + 8) 32 (words .write (m .words)) (set (set (modifyAt (p + 3) 3 (tokens .write (v .1)) t) (p + 6) 0) (p + 7) 0)) (ends-write p (m .sender) (m .target) (m .block) s (omega arith))
-    ∙ ap (modifyAt (p + 8) 32 (words .write (m .words))) (heading-write p v s (omega arith))
+    ap (λ (t : List ℕ). modifyAt (p + messageWordsOffset) wordsSize (words .write (m .words)) (set (set (modifyAt (p + messagePlainOffset) 3 (tokens .write (v .1)) t) (p + messageZeroOffset) 0) (p + messageLastZeroOffset) 0)) (ends-write p (m .sender) (m .target) (m .block) s (omega arith))
+    ∙ ap (modifyAt (p + messageWordsOffset) wordsSize (words .write (m .words))) (heading-write p v s (omega arith))
     ∙ (λ i. modifyAt (p + sym heading-size i) (sym words-size i) (words .write (m .words)) (modifyAt p (sym heading-size i) (messageHeader .write v) s))
     ∙ sym (write-pair messageHeader words p s heading-lawful (fromMessage m) (rw (heading-size, words-size) l))
     ∙ (λ i. modifyAt p (heading-size i + words-size i) (message .write m) s)

@@ -15,7 +15,7 @@ use Rattle.spec_base.proofs.Folds.{below-at, below-of}
 use Rattle.spec_base.proofs.Forms.{formed-pair}
 use Rattle.spec_base.proofs.Lanes.{lane-of, lane-each, lane-rest}
 use Rattle.spec_rack.specs.Soundness.{soundCell}
-use Rattle.spec_rack.specs.RecordLayout.{tokenLanes, lanesSize}
+use Rattle.spec_rack.specs.RecordLayout.{tokenLanes, lanesSize, laneSize, ownerOffset, validOffset}
 use Rattle.record.proofs.FieldBytes.{flag-formed}
 use Rattle.record_lanes.specs.Lanes.{plainAt, ownerAt, validAt, holdsToken, soundLane, soundLanes, unusedLanesEmpty}
 
@@ -59,33 +59,33 @@ module _ (n at : ℕ) (s : List ℕ) (h : n ≤ 15) where
   pub record Lanes : Type 0 where
     pub owners : (i : ℕ) → i ≤ n → ownerAt s at i < 2
     pub valids : (i : ℕ) → i ≤ n → validAt s at i < 2
-    pub no-plain : (i : ℕ) → n < i → i < 16 → plainAt s at i ≡ 0
-    pub no-owner : (i : ℕ) → n < i → i < 16 → ownerAt s at i ≡ 0
-    pub no-valid : (i : ℕ) → n < i → i < 16 → validAt s at i ≡ 0
+    pub no-plain : (i : ℕ) → n < i → i < laneSize → plainAt s at i ≡ 0
+    pub no-owner : (i : ℕ) → n < i → i < laneSize → ownerAt s at i ≡ 0
+    pub no-valid : (i : ℕ) → n < i → i < laneSize → validAt s at i ≡ 0
 
-  abbrev few : suc n ≤ 16
+  abbrev few : suc n ≤ laneSize
   few = omega arith
 
   abbrev plainForm : Bool
-  plainForm = lane byte (suc n) .wellFormed (slice at 16 s)
+  plainForm = lane byte (suc n) .wellFormed (slice at laneSize s)
 
   abbrev ownerForm : Bool
-  ownerForm = lane flag (suc n) .wellFormed (slice (at + 16) 16 s)
+  ownerForm = lane flag (suc n) .wellFormed (slice (at + ownerOffset) laneSize s)
 
   abbrev validForm : Bool
-  validForm = lane flag (suc n) .wellFormed (slice (at + 16 + 16) 16 s)
+  validForm = lane flag (suc n) .wellFormed (slice (at + ownerOffset + laneSize) laneSize s)
 
   form-is : tokenLanes n .wellFormed (slice at lanesSize s) ≡ (plainForm && (ownerForm && validForm))
   unfolding tokenLanes
   form-is =
       formed-pair (lane byte (suc n)) (zipped (lane flag (suc n)) (lane flag (suc n))) at s
-      ∙ ap (λ (t : Bool). plainForm && t) (formed-pair (lane flag (suc n)) (lane flag (suc n)) (at + 16) s)
+      ∙ ap (λ (t : Bool). plainForm && t) (formed-pair (lane flag (suc n)) (lane flag (suc n)) (at + ownerOffset) s)
 
   -- a mark of a lane at p
-  mark : (p i : ℕ) → lane flag (suc n) .wellFormed (slice p 16 s) ≡ true → i ≤ n → getD s (p + i) 0 < 2
+  mark : (p i : ℕ) → lane flag (suc n) .wellFormed (slice p laneSize s) ≡ true → i ≤ n → getD s (p + i) 0 < 2
   mark p i e l = ltb-true (getD s (p + i) 0) 2 (sym (flag-formed s (p + 1 * i) (p + i) (omega arith)) ∙ lane-each flag (suc n) few p s e i (omega arith))
 
-  far : (i : ℕ) → at + 16 + 16 + i ≡ at + 32 + i
+  far : (i : ℕ) → at + ownerOffset + laneSize + i ≡ at + validOffset + i
   far i = omega arith
 
   pub lanes-facts : tokenLanes n .wellFormed (slice at lanesSize s) ≡ true → Lanes
@@ -95,11 +95,11 @@ module _ (n at : ℕ) (s : List ℕ) (h : n ≤ 15) where
       let b : ownerForm ≡ true = and-l ownerForm validForm (and-r plainForm (ownerForm && validForm) q) in
       let c : validForm ≡ true = and-r ownerForm validForm (and-r plainForm (ownerForm && validForm) q) in
       record {
-        owners = λ i l. mark (at + 16) i b l;
-        valids = λ i l. rw (far i) at (mark (at + 16 + 16) i c l);
+        owners = λ i l. mark (at + ownerOffset) i b l;
+        valids = λ i l. rw (far i) at (mark (at + ownerOffset + laneSize) i c l);
         no-plain = λ i l u. lane-rest byte (suc n) few at s a i (omega arith) (omega arith);
-        no-owner = λ i l u. lane-rest flag (suc n) few (at + 16) s b i (omega arith) (omega arith);
-        no-valid = λ i l u. ap (λ (k : ℕ). getD s k 0) (sym (far i)) ∙ lane-rest flag (suc n) few (at + 16 + 16) s c i (omega arith) (omega arith);
+        no-owner = λ i l u. lane-rest flag (suc n) few (at + ownerOffset) s b i (omega arith) (omega arith);
+        no-valid = λ i l u. ap (λ (k : ℕ). getD s k 0) (sym (far i)) ∙ lane-rest flag (suc n) few (at + ownerOffset + laneSize) s c i (omega arith) (omega arith);
       }
 
   pub lanes-form : Lanes → tokenLanes n .wellFormed (slice at lanesSize s) ≡ true
@@ -108,39 +108,39 @@ module _ (n at : ℕ) (s : List ℕ) (h : n ≤ 15) where
       ∙ and-of plainForm (ownerForm && validForm)
       (lane-of byte (suc n) few at s (λ i l. refl) (λ i l u. f .no-plain i (omega arith) (omega arith)))
       (and-of ownerForm validForm
-      (lane-of flag (suc n) few (at + 16) s
-      (λ i l. flag-formed s (at + 16 + 1 * i) (at + 16 + i) (omega arith) ∙ lt-ltb (getD s (at + 16 + i) 0) 2 (f .owners i (omega arith)))
+      (lane-of flag (suc n) few (at + ownerOffset) s
+      (λ i l. flag-formed s (at + ownerOffset + 1 * i) (at + ownerOffset + i) (omega arith) ∙ lt-ltb (getD s (at + ownerOffset + i) 0) 2 (f .owners i (omega arith)))
       (λ i l u. f .no-owner i (omega arith) (omega arith)))
-      (lane-of flag (suc n) few (at + 16 + 16) s
-      (λ i l. flag-formed s (at + 16 + 16 + 1 * i) (at + 32 + i) (omega arith) ∙ lt-ltb (getD s (at + 32 + i) 0) 2 (f .valids i (omega arith)))
+      (lane-of flag (suc n) few (at + ownerOffset + laneSize) s
+      (λ i l. flag-formed s (at + ownerOffset + laneSize + 1 * i) (at + validOffset + i) (omega arith) ∙ lt-ltb (getD s (at + validOffset + i) 0) 2 (f .valids i (omega arith)))
       (λ i l u. ap (λ (k : ℕ). getD s k 0) (far i) ∙ f .no-valid i (omega arith) (omega arith))))
 
   -- ---- all places that are fine are as the layout has them
 
   module _ (a : soundLanes s at ≡ true) (b : unusedLanesEmpty n s at ≡ true) where
-    fine-order : (i : ℕ) → i < 16 → ownerAt s at i ≤ validAt s at i
+    fine-order : (i : ℕ) → i < laneSize → ownerAt s at i ≤ validAt s at i
     unfolding soundLanes
     fine-order i l =
-        leb-true (ownerAt s at i) (validAt s at i) (and-l (leb (ownerAt s at i) (validAt s at i)) (leb (validAt s at i) (toℕ (holdsToken s at i))) (below-at (soundLane s at) 16 a i l))
+        leb-true (ownerAt s at i) (validAt s at i) (and-l (leb (ownerAt s at i) (validAt s at i)) (leb (validAt s at i) (toℕ (holdsToken s at i))) (below-at (soundLane s at) laneSize a i l))
 
-    fine-held : (i : ℕ) → i < 16 → validAt s at i ≤ toℕ (holdsToken s at i)
+    fine-held : (i : ℕ) → i < laneSize → validAt s at i ≤ toℕ (holdsToken s at i)
     unfolding soundLanes
     fine-held i l =
-        leb-true (validAt s at i) (toℕ (holdsToken s at i)) (and-r (leb (ownerAt s at i) (validAt s at i)) (leb (validAt s at i) (toℕ (holdsToken s at i))) (below-at (soundLane s at) 16 a i l))
+        leb-true (validAt s at i) (toℕ (holdsToken s at i)) (and-r (leb (ownerAt s at i) (validAt s at i)) (leb (validAt s at i) (toℕ (holdsToken s at i))) (below-at (soundLane s at) laneSize a i l))
 
-    fine-mark : (i : ℕ) → i < 16 → validAt s at i < 2
+    fine-mark : (i : ℕ) → i < laneSize → validAt s at i < 2
     fine-mark i l = omega (arith, fine-held i l, one-most (holdsToken s at i))
       where
         one-most : (t : Bool) → toℕ t ≤ 1
         one-most true = omega arith
         one-most false = omega arith
 
-    fine-empty : (i : ℕ) → n < i → i < 16 → plainAt s at i + ownerAt s at i ≡ 0
+    fine-empty : (i : ℕ) → n < i → i < laneSize → plainAt s at i + ownerAt s at i ≡ 0
     unfolding unusedLanesEmpty
     fine-empty i l u =
         eqb-true (plainAt s at i + ownerAt s at i) 0
         (back (eqb (plainAt s at i + ownerAt s at i) 0)
-        (implied (ltb n i) (not (holdsToken s at i)) (below-at (λ j. implies (ltb n j) (not (holdsToken s at j))) 16 b i u) (lt-ltb n i l)))
+        (implied (ltb n i) (not (holdsToken s at i)) (below-at (λ j. implies (ltb n j) (not (holdsToken s at j))) laneSize b i u) (lt-ltb n i l)))
       where
         back : (t : Bool) → not (not t) ≡ true → t ≡ true
         back true e = refl
@@ -160,17 +160,17 @@ module _ (n at : ℕ) (s : List ℕ) (h : n ≤ 15) where
   pub lanes-same : Lanes → allBelow (suc n) (soundLane s at) ≡ (soundLanes s at && unusedLanesEmpty n s at)
   unfolding soundLanes unusedLanesEmpty
   lanes-same f =
-      same-test (allBelow (suc n) (soundLane s at)) (allBelow 16 (soundLane s at) && allBelow 16 (λ i. implies (ltb n i) (not (holdsToken s at i))))
-      (λ q. and-of (allBelow 16 (soundLane s at)) (allBelow 16 (λ i. implies (ltb n i) (not (holdsToken s at i))))
-      (below-of (soundLane s at) 16 (λ i u. ⊎-elim (λ (l : n < i). above i l u) (λ (l : i ≤ n). below-at (soundLane s at) (suc n) q i (omega arith)) (lt-or-le n i)))
-      (below-of (λ i. implies (ltb n i) (not (holdsToken s at i))) 16 (λ i u. implies-of (ltb n i) (not (holdsToken s at i)) (λ e. nothing i (ltb-true n i e) u))))
-      (λ q. below-of (soundLane s at) (suc n) (λ i l. below-at (soundLane s at) 16 (and-l (allBelow 16 (soundLane s at)) (allBelow 16 (λ j. implies (ltb n j) (not (holdsToken s at j)))) q) i (omega arith)))
+      same-test (allBelow (suc n) (soundLane s at)) (allBelow laneSize (soundLane s at) && allBelow laneSize (λ i. implies (ltb n i) (not (holdsToken s at i))))
+      (λ q. and-of (allBelow laneSize (soundLane s at)) (allBelow laneSize (λ i. implies (ltb n i) (not (holdsToken s at i))))
+      (below-of (soundLane s at) laneSize (λ i u. ⊎-elim (λ (l : n < i). above i l u) (λ (l : i ≤ n). below-at (soundLane s at) (suc n) q i (omega arith)) (lt-or-le n i)))
+      (below-of (λ i. implies (ltb n i) (not (holdsToken s at i))) laneSize (λ i u. implies-of (ltb n i) (not (holdsToken s at i)) (λ e. nothing i (ltb-true n i e) u))))
+      (λ q. below-of (soundLane s at) (suc n) (λ i l. below-at (soundLane s at) laneSize (and-l (allBelow laneSize (soundLane s at)) (allBelow laneSize (λ j. implies (ltb n j) (not (holdsToken s at j)))) q) i (omega arith)))
     where
-      nothing : (i : ℕ) → n < i → i < 16 → not (holdsToken s at i) ≡ true
+      nothing : (i : ℕ) → n < i → i < laneSize → not (holdsToken s at i) ≡ true
       nothing i l u =
           ap (λ (t : Bool). not (not t)) (eq-eqb (plainAt s at i + ownerAt s at i) 0 (omega (arith, f .no-plain i l u, f .no-owner i l u)))
 
-      above : (i : ℕ) → n < i → i < 16 → soundLane s at i ≡ true
+      above : (i : ℕ) → n < i → i < laneSize → soundLane s at i ≡ true
       above i l u =
           and-of (leb (ownerAt s at i) (validAt s at i)) (leb (validAt s at i) (toℕ (holdsToken s at i)))
           (le-leb (ownerAt s at i) (validAt s at i) (omega (arith, f .no-owner i l u)))

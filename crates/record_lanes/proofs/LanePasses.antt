@@ -15,7 +15,7 @@ use Rattle.spec_base.specs.Folds.{allBelow, implies}
 use Rattle.spec_base.proofs.Tests.{and-l, and-r, and-of, not-of-true, not-of-false, same-or-not, same-test, lt-or-le, implied, implies-of}
 use Rattle.spec_base.proofs.Folds.{below-at, below-of}
 use Rattle.spec_base.specs.Number.{Bytes}
-use Rattle.spec_rack.specs.RecordLayout.{blockOffset}
+use Rattle.spec_rack.specs.RecordLayout.{blockOffset, laneSize, ownerOffset}
 use Rattle.record_lanes.specs.Lanes.{plainAt, ownerAt, holdsToken, unusedLanesEmpty, lowFirst}
 
 -- ---- tests of numbers that are 0
@@ -91,34 +91,34 @@ module _ (s : List ℕ) (bytes : Bytes s) (from : ℕ) where
     plains i = getD s (at + i) 0
 
     owners : ℕ → ℕ
-    owners i = getD s (at + 16 + i) 0
+    owners i = getD s (at + ownerOffset + i) 0
 
     place : (p : ℕ) → getD s (at + p) 0 ≡ plainAt s (blockOffset b) (from + p)
     place p = ap (λ (i : ℕ). getD s i 0) (let q : at + p ≡ blockOffset b + (from + p) = omega (arith, stands) in q)
 
-    mark : (p : ℕ) → getD s (at + 16 + p) 0 ≡ ownerAt s (blockOffset b) (from + p)
-    mark p = ap (λ (i : ℕ). getD s i 0) (let q : at + 16 + p ≡ blockOffset b + 16 + (from + p) = omega (arith, stands) in q)
+    mark : (p : ℕ) → getD s (at + ownerOffset + p) 0 ≡ ownerAt s (blockOffset b) (from + p)
+    mark p = ap (λ (i : ℕ). getD s i 0) (let q : at + ownerOffset + p ≡ blockOffset b + ownerOffset + (from + p) = omega (arith, stands) in q)
 
-    here : (p : ℕ) → getD s (at + p) 0 ≡ 0 → getD s (at + 16 + p) 0 ≡ 0 → holdsToken s (blockOffset b) (from + p) ≡ false
+    here : (p : ℕ) → getD s (at + p) 0 ≡ 0 → getD s (at + ownerOffset + p) 0 ≡ 0 → holdsToken s (blockOffset b) (from + p) ≡ false
     here p x y = not-of-true (eqb (plainAt s (blockOffset b) (from + p) + ownerAt s (blockOffset b) (from + p)) 0)
         (eq-eqb (plainAt s (blockOffset b) (from + p) + ownerAt s (blockOffset b) (from + p)) 0 (omega (arith, x, y, place p, mark p)))
 
-    gone : (p : ℕ) → holdsToken s (blockOffset b) (from + p) ≡ false → (getD s (at + p) 0 ≡ 0) × (getD s (at + 16 + p) 0 ≡ 0)
+    gone : (p : ℕ) → holdsToken s (blockOffset b) (from + p) ≡ false → (getD s (at + p) 0 ≡ 0) × (getD s (at + ownerOffset + p) 0 ≡ 0)
     gone p h =
         let none : plainAt s (blockOffset b) (from + p) + ownerAt s (blockOffset b) (from + p) ≡ 0 = eqb-true (plainAt s (blockOffset b) (from + p) + ownerAt s (blockOffset b) (from + p)) 0 (not-false (eqb (plainAt s (blockOffset b) (from + p) + ownerAt s (blockOffset b) (from + p)) 0) h) in
         (omega (arith, none, place p), omega (arith, none, mark p))
 
-    pub see-more : (seen after : ℕ) → after ≡ bitOr (bitOr seen (lowFirst (λ i. getD s (at + i) 0) 8)) (lowFirst (λ i. getD s (at + 16 + i) 0) 8)
+    pub see-more : (seen after : ℕ) → after ≡ bitOr (bitOr seen (lowFirst (λ i. getD s (at + i) 0) 8)) (lowFirst (λ i. getD s (at + ownerOffset + i) 0) 8)
         → Seeing b seen → Seeing (b + 1) after
     see-more seen after e h =
         let first : ℕ = lowFirst (λ i. getD s (at + i) 0) 8 in
-        let second : ℕ = lowFirst (λ i. getD s (at + 16 + i) 0) 8 in
+        let second : ℕ = lowFirst (λ i. getD s (at + ownerOffset + i) 0) 8 in
         let outer = or-most (bitOr seen first) second in
         let inner = or-most seen first in
         record {
           there = λ k l j u p v w.
               ⊎-elim (λ (z : j ≡ b). ap (λ (q : ℕ). holdsToken s (blockOffset q) (from + p)) z
-              ∙ here p (low-zero (λ i. getD s (at + i) 0) 8 k (omega (arith, l, e, outer .0, inner .1)) p v w) (low-zero (λ i. getD s (at + 16 + i) 0) 8 k (omega (arith, l, e, outer .1)) p v w))
+              ∙ here p (low-zero (λ i. getD s (at + i) 0) 8 k (omega (arith, l, e, outer .0, inner .1)) p v w) (low-zero (λ i. getD s (at + ownerOffset + i) 0) 8 k (omega (arith, l, e, outer .1)) p v w))
               (λ (ne : j ≡ b → ⊥). h .there k (omega (arith, l, e, outer .0, inner .0)) j (omega arith) p v w) (same-or-not j b);
           back = λ k f.
               omega (
@@ -126,7 +126,7 @@ module _ (s : List ℕ) (bytes : Bytes s) (from : ℕ) where
                 e,
                 or-lt (8 * k) (bitOr seen first) second
                     (or-lt (8 * k) seen first (h .back k (λ j u p v w. f j (omega arith) p v w)) (low-lt (λ i. getD s (at + i) 0) (λ i. bytes (at + i)) 8 k (λ p v w. gone p (f b (omega arith) p v w) .0)))
-                    (low-lt (λ i. getD s (at + 16 + i) 0) (λ i. bytes (at + 16 + i)) 8 k (λ p v w. gone p (f b (omega arith) p v w) .1)),
+                    (low-lt (λ i. getD s (at + ownerOffset + i) 0) (λ i. bytes (at + ownerOffset + i)) 8 k (λ p v w. gone p (f b (omega arith) p v w) .1)),
               );
         }
 
@@ -134,18 +134,18 @@ module _ (s : List ℕ) (bytes : Bytes s) (from : ℕ) where
 
 module _ (s : List ℕ) (n count : ℕ) where
   abbrev Free : Type 0
-  Free = (j : ℕ) → j < count → (i : ℕ) → n < i → i < 16 → holdsToken s (blockOffset j) i ≡ false
+  Free = (j : ℕ) → j < count → (i : ℕ) → n < i → i < laneSize → holdsToken s (blockOffset j) i ≡ false
 
   rooms-by : (test : Bool) → (test ≡ true → Free) → (Free → test ≡ true) → test ≡ allBelow count (λ b. unusedLanesEmpty n s (blockOffset b))
   unfolding unusedLanesEmpty
   rooms-by test to from =
-      same-test test (allBelow count (λ b. allBelow 16 (λ i. implies (ltb n i) (not (holdsToken s (blockOffset b) i)))))
-      (λ h. below-of (λ b. allBelow 16 (λ i. implies (ltb n i) (not (holdsToken s (blockOffset b) i)))) count
-      (λ b l. below-of (λ i. implies (ltb n i) (not (holdsToken s (blockOffset b) i))) 16
+      same-test test (allBelow count (λ b. allBelow laneSize (λ i. implies (ltb n i) (not (holdsToken s (blockOffset b) i)))))
+      (λ h. below-of (λ b. allBelow laneSize (λ i. implies (ltb n i) (not (holdsToken s (blockOffset b) i)))) count
+      (λ b l. below-of (λ i. implies (ltb n i) (not (holdsToken s (blockOffset b) i))) laneSize
       (λ i u. implies-of (ltb n i) (not (holdsToken s (blockOffset b) i)) (λ t. not-of-false (holdsToken s (blockOffset b) i) (to h b l i (ltb-true n i t) u)))))
       (λ h. from (λ j l i t u. not-true (holdsToken s (blockOffset j) i)
       (implied (ltb n i) (not (holdsToken s (blockOffset j) i))
-      (below-at (λ k. implies (ltb n k) (not (holdsToken s (blockOffset j) k))) 16 (below-at (λ b. allBelow 16 (λ k. implies (ltb n k) (not (holdsToken s (blockOffset b) k)))) count h j l) i u)
+      (below-at (λ k. implies (ltb n k) (not (holdsToken s (blockOffset j) k))) laneSize (below-at (λ b. allBelow laneSize (λ k. implies (ltb n k) (not (holdsToken s (blockOffset b) k)))) count h j l) i u)
       (lt-ltb n i t))))
 
   shr-lt : (x m : ℕ) → eqb (x / 2 ^ m) 0 ≡ true → x < 2 ^ m
@@ -181,6 +181,6 @@ module _ (s : List ℕ) (n count : ℕ) where
 pub rooms-full : (n count : ℕ) (s : List ℕ) → n ≡ 15 → allBelow count (λ b. unusedLanesEmpty n s (blockOffset b)) ≡ true
 unfolding unusedLanesEmpty
 rooms-full n count s e =
-    below-of (λ b. allBelow 16 (λ i. implies (ltb n i) (not (holdsToken s (blockOffset b) i)))) count
-    (λ b l. below-of (λ i. implies (ltb n i) (not (holdsToken s (blockOffset b) i))) 16
+    below-of (λ b. allBelow laneSize (λ i. implies (ltb n i) (not (holdsToken s (blockOffset b) i)))) count
+    (λ b l. below-of (λ i. implies (ltb n i) (not (holdsToken s (blockOffset b) i))) laneSize
     (λ i u. implies-of (ltb n i) (not (holdsToken s (blockOffset b) i)) (λ t. let k : n < i = ltb-true n i t in absurd (omega arith))))

@@ -5,7 +5,7 @@ use mathlib.Core.List.{List}
 use lib.ListN.{getD}
 use lib.Dec.{eqb, leb, ltb}
 use Rattle.spec_base.specs.Folds.{toℕ, implies, allBelow, sumBelow}
-use Rattle.spec_rack.specs.RecordLayout.{ownerOffset, validOffset}
+use Rattle.spec_rack.specs.RecordLayout.{ownerOffset, validOffset, laneSize}
 
 -- the bytes of component i in the lanes of the block at a place
 abbrev pub plainAt : List ℕ → ℕ → ℕ → ℕ
@@ -26,11 +26,11 @@ abbrev pub soundLane : List ℕ → ℕ → ℕ → Bool
 soundLane s at i = leb (ownerAt s at i) (validAt s at i) && leb (validAt s at i) (toℕ (holdsToken s at i))
 
 unfoldable pub soundLanes : List ℕ → ℕ → Bool
-soundLanes s at = allBelow 16 (soundLane s at)
+soundLanes s at = allBelow laneSize (soundLane s at)
 
 -- components above n hold nothing
 unfoldable pub unusedLanesEmpty : ℕ → List ℕ → ℕ → Bool
-unusedLanesEmpty n s at = allBelow 16 (λ i. implies (ltb n i) (not (holdsToken s at i)))
+unusedLanesEmpty n s at = allBelow laneSize (λ i. implies (ltb n i) (not (holdsToken s at i)))
 
 -- the first n of some bytes as one number, the low byte first
 unfoldable pub lowFirst : (ℕ → ℕ) → ℕ → ℕ
@@ -39,4 +39,4 @@ lowFirst f (suc n) = f 0 + 256 * lowFirst (λ i. f (suc i)) n
 
 -- the sum of the sixteen bytes of a lane
 unfoldable pub laneSum : List ℕ → ℕ → ℕ
-laneSum s at = sumBelow 16 (λ i. getD s (at + i) 0)
+laneSum s at = sumBelow laneSize (λ i. getD s (at + i) 0)

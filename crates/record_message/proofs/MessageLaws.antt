@@ -11,7 +11,7 @@ use Rattle.spec_base.specs.Folds.{toℕ, implies, allBelow, all}
 use Rattle.spec_base.proofs.Tests.{and-l, and-r, and-of, and-left, and-right, and-known, and-under, not-of-true, not-of-false, same-test, lt-or-le, implied, implies-of, eqb-one}
 use Rattle.spec_base.specs.Layout.{slice}
 use Rattle.spec_rack.specs.Soundness.{soundMessage}
-use Rattle.spec_rack.specs.RecordLayout.{words}
+use Rattle.spec_rack.specs.RecordLayout.{words, targetOffset, messageBlockOffset, messagePlainOffset, messageOwnerOffset, dataOffset, messageZeroOffset, messageWordsOffset, wordsSize}
 use Rattle.record.proofs.FieldBytes.{words-eight, message-read, message-formed}
 use Rattle.record_message.specs.Messages.{flagsConsistent, endpointsKnown, soundFlags, soundMessageAt}
 use mathlib.Core.Logic.{⊎-elim}
@@ -92,19 +92,19 @@ module _ (s : List ℕ) (at : ℕ) (n b : ℕ) where
   -- what is asked of a message but for its words
   abbrev headFine : Bool
   headFine =
-      flagsConsistent (getD s (at + 4) 0) (getD s (at + 5) 0) && ltb 0 (getD s (at + 3) 0 + getD s (at + 4) 0) && endpointsKnown n b s at && allBelow 2 (λ i. eqb (getD s (at + 6 + i) 0) 0)
+      flagsConsistent (getD s (at + messageOwnerOffset) 0) (getD s (at + dataOffset) 0) && ltb 0 (getD s (at + messagePlainOffset) 0 + getD s (at + messageOwnerOffset) 0) && endpointsKnown n b s at && allBelow 2 (λ i. eqb (getD s (at + messageZeroOffset + i) 0) 0)
 
-  pub message-is : soundMessageAt n b s at ≡ (headFine && implies (not (eqb (getD s (at + 5) 0) 1)) (all (eqb 0) (words .read (slice (at + 8) 32 s))))
+  pub message-is : soundMessageAt n b s at ≡ (headFine && implies (not (eqb (getD s (at + dataOffset) 0) 1)) (all (eqb 0) (words .read (slice (at + messageWordsOffset) wordsSize s))))
   unfolding soundMessageAt
   message-is =
       let x : ℕ = getD s at 0 in
-      let y : ℕ = getD s (at + 1) 0 in
-      let k : ℕ = getD s (at + 2) 0 in
-      let p : ℕ = getD s (at + 3) 0 in
-      let o : ℕ = getD s (at + 4) 0 in
-      let d : ℕ = getD s (at + 5) 0 in
-      let ws : List ℕ = words .read (slice (at + 8) 32 s) in
-      let z : Bool = allBelow 2 (λ i. eqb (getD s (at + 6 + i) 0) 0) in
+      let y : ℕ = getD s (at + targetOffset) 0 in
+      let k : ℕ = getD s (at + messageBlockOffset) 0 in
+      let p : ℕ = getD s (at + messagePlainOffset) 0 in
+      let o : ℕ = getD s (at + messageOwnerOffset) 0 in
+      let d : ℕ = getD s (at + dataOffset) 0 in
+      let ws : List ℕ = words .read (slice (at + messageWordsOffset) wordsSize s) in
+      let z : Bool = allBelow 2 (λ i. eqb (getD s (at + messageZeroOffset + i) 0) 0) in
       let e : Bool = eqb (length ws) 8 in
       let w : Bool = implies (not (eqb d 1)) (all (eqb 0) ws) in
       let c : Bool = implies (eqb o 1) (eqb d 1) in
@@ -113,19 +113,19 @@ module _ (s : List ℕ) (at : ℕ) (n b : ℕ) where
       (e && w && leb x n && leb y n && not (eqb x y) && ltb k b && ltb 0 (p + toℕ (eqb o 1)) && c)
       (e && w && leb x n && leb y n && not (eqb x y) && ltb k b && ltb 0 (p + o) && c)
       (λ q i. e && w && leb x n && leb y n && not (eqb x y) && ltb k b && ltb 0 (owned p o d (and-l (ltb o 2 && ltb d 2) z q) i) && c)
-      ∙ message-order (ltb o 2) (ltb d 2) z e w (leb x n) (leb y n) (not (eqb x y)) (ltb k b) (ltb 0 (p + o)) c (eq-eqb (length ws) 8 (words-eight (slice (at + 8) 32 s)))
+      ∙ message-order (ltb o 2) (ltb d 2) z e w (leb x n) (leb y n) (not (eqb x y)) (ltb k b) (ltb 0 (p + o)) c (eq-eqb (length ws) 8 (words-eight (slice (at + messageWordsOffset) wordsSize s)))
 
   -- the tests in the order of the code: the ends, what it carries, and its mark of data with the words
   abbrev wordsFine : Bool
-  wordsFine = ltb (getD s (at + 5) 0) 2 && implies (not (eqb (getD s (at + 5) 0) 1)) (all (eqb 0) (words .read (slice (at + 8) 32 s)))
+  wordsFine = ltb (getD s (at + dataOffset) 0) 2 && implies (not (eqb (getD s (at + dataOffset) 0) 1)) (all (eqb 0) (words .read (slice (at + messageWordsOffset) wordsSize s)))
 
   message-tests : soundMessageAt n b s at ≡ (endpointsKnown n b s at && (soundFlags s at && wordsFine))
   message-tests =
-      let p : ℕ = getD s (at + 3) 0 in
-      let o : ℕ = getD s (at + 4) 0 in
-      let d : ℕ = getD s (at + 5) 0 in
-      let z : Bool = allBelow 2 (λ i. eqb (getD s (at + 6 + i) 0) 0) in
-      let w : Bool = implies (not (eqb d 1)) (all (eqb 0) (words .read (slice (at + 8) 32 s))) in
+      let p : ℕ = getD s (at + messagePlainOffset) 0 in
+      let o : ℕ = getD s (at + messageOwnerOffset) 0 in
+      let d : ℕ = getD s (at + dataOffset) 0 in
+      let z : Bool = allBelow 2 (λ i. eqb (getD s (at + messageZeroOffset + i) 0) 0) in
+      let w : Bool = implies (not (eqb d 1)) (all (eqb 0) (words .read (slice (at + messageWordsOffset) wordsSize s))) in
       let marks : flagsConsistent o d ≡ (leb o d && ltb d 2) =
       sym (marks-is (leb o d && ltb d 2) o d (λ q. (leb-true o d (and-l (leb o d) (ltb d 2) q), ltb-true d 2 (and-r (leb o d) (ltb d 2) q)))
       (λ l m. and-of (leb o d) (ltb d 2) (le-leb o d l) (lt-ltb d 2 m))) in
@@ -143,20 +143,20 @@ module _ (s : List ℕ) (at : ℕ) (n b : ℕ) where
     message-words = message-tests ∙ and-known (endpointsKnown n b s at) (soundFlags s at && wordsFine) ends ∙ and-known (soundFlags s at) wordsFine carried
 
     -- with data the words are free
-    pub message-full : getD s (at + 5) 0 ≡ 1 → soundMessageAt n b s at ≡ true
+    pub message-full : getD s (at + dataOffset) 0 ≡ 1 → soundMessageAt n b s at ≡ true
     message-full h =
-        message-words ∙ ap (λ (d : ℕ). ltb d 2 && implies (not (eqb d 1)) (all (eqb 0) (words .read (slice (at + 8) 32 s)))) h
+        message-words ∙ ap (λ (d : ℕ). ltb d 2 && implies (not (eqb d 1)) (all (eqb 0) (words .read (slice (at + messageWordsOffset) wordsSize s)))) h
 
-    pub message-other : (getD s (at + 5) 0 ≡ 1 → ⊥) → (getD s (at + 5) 0 ≡ 0 → ⊥) → soundMessageAt n b s at ≡ false
+    pub message-other : (getD s (at + dataOffset) 0 ≡ 1 → ⊥) → (getD s (at + dataOffset) 0 ≡ 0 → ⊥) → soundMessageAt n b s at ≡ false
     message-other h k =
         message-words
-        ∙ and-left (ltb (getD s (at + 5) 0) 2) (implies (not (eqb (getD s (at + 5) 0) 1)) (all (eqb 0) (words .read (slice (at + 8) 32 s)))) (le-ltb (getD s (at + 5) 0) 2 (omega arith))
+        ∙ and-left (ltb (getD s (at + dataOffset) 0) 2) (implies (not (eqb (getD s (at + dataOffset) 0) 1)) (all (eqb 0) (words .read (slice (at + messageWordsOffset) wordsSize s)))) (le-ltb (getD s (at + dataOffset) 0) 2 (omega arith))
 
-    pub message-bare : getD s (at + 5) 0 ≡ 0 → soundMessageAt n b s at ≡ all (eqb 0) (words .read (slice (at + 8) 32 s))
+    pub message-bare : getD s (at + dataOffset) 0 ≡ 0 → soundMessageAt n b s at ≡ all (eqb 0) (words .read (slice (at + messageWordsOffset) wordsSize s))
     message-bare h =
-        message-words ∙ ap (λ (d : ℕ). ltb d 2 && implies (not (eqb d 1)) (all (eqb 0) (words .read (slice (at + 8) 32 s)))) h
+        message-words ∙ ap (λ (d : ℕ). ltb d 2 && implies (not (eqb d 1)) (all (eqb 0) (words .read (slice (at + messageWordsOffset) wordsSize s)))) h
 
-  pub message-block : soundMessageAt n b s at ≡ true → getD s (at + 2) 0 < b
+  pub message-block : soundMessageAt n b s at ≡ true → getD s (at + messageBlockOffset) 0 < b
   message-block h =
-      let q : (headFine && implies (not (eqb (getD s (at + 5) 0) 1)) (all (eqb 0) (words .read (slice (at + 8) 32 s)))) ≡ true = sym message-is ∙ h in
-      ltb-true (getD s (at + 2) 0) b (search (and-l, and-r) depth 8)
+      let q : (headFine && implies (not (eqb (getD s (at + dataOffset) 0) 1)) (all (eqb 0) (words .read (slice (at + messageWordsOffset) wordsSize s)))) ≡ true = sym message-is ∙ h in
+      ltb-true (getD s (at + messageBlockOffset) 0) b (search (and-l, and-r) depth 8)

@@ -14,7 +14,7 @@ use Rattle.spec_base.specs.Layout.{slice}
 use Rattle.spec_base.proofs.Tests.{and-l, and-r, and-of, and-left, and-right, and-known, same-test, one-lt, eqb-one, cond-of}
 use Rattle.spec_base.proofs.Folds.{below-of, below-at, below-same, at-set, every-below, sum-next, sum-most, sum-below, sum-short, sum-scaled}
 use Rattle.spec_rack.specs.Claims.{soundClaims}
-use Rattle.spec_rack.specs.RecordLayout.{claims, claimsAtOffset as claimsBytes, messageOffset, blockOffset, ownerOffset, validOffset, claimsOffset, wordsOffset, wordsSize, Tokens, words, toCell, message, tokenLanes, block, recordLength, layoutOf, get, blockSize, blocksIn, boardsIn, claimsSize, lanesSize, messageSize, messagesIn, tokensIn}
+use Rattle.spec_rack.specs.RecordLayout.{claims, claimsAtOffset as claimsBytes, messageOffset, blockOffset, ownerOffset, validOffset, claimsOffset, wordsOffset, wordsSize, Tokens, words, toCell, message, tokenLanes, block, recordLength, layoutOf, get, blockSize, blocksIn, boardsIn, claimsSize, lanesSize, messageSize, messagesIn, tokensIn, targetOffset, messageBlockOffset, messagePlainOffset, messageOwnerOffset, dataOffset, messageWordsOffset, laneSize}
 use Rattle.spec_rack.specs.declared.Message.{Message}
 use Rattle.spec_rack.specs.Rack.{Cell, meshLimit, owners, held, carried, noCell, noMessage, blockAt, cellAt, messageAt, tokensOf, ownersOf}
 use Rattle.spec_rack.specs.Soundness.{sizes, soundCell, soundMessage, soundBlock, sound, wellFormedRecord, soundBytes}
@@ -45,21 +45,21 @@ module _ (s : List ℕ) where
     unfolding sumInFlight
     flying-most m k =
         sum-most (λ i. carriedSumAt s k (messageOffset i)) 16711935 m
-        (λ i l. cond-of (λ w. w ≤ 16711935) (eqb (getD s (messageOffset i + 2) 0) k) (tokenSumAt s (messageOffset i + 3)) 0 (weight-most s h (messageOffset i + 3)) (omega arith))
+        (λ i l. cond-of (λ w. w ≤ 16711935) (eqb (getD s (messageOffset i + messageBlockOffset) 0) k) (tokenSumAt s (messageOffset i + messagePlainOffset)) 0 (weight-most s h (messageOffset i + messagePlainOffset)) (omega arith))
 
   -- the sums after one message more
-  pub sums-turn : (sums : List ℕ) (i b v : ℕ) → length sums ≡ 32 → b < 32 → b ≡ getD s (messageOffset i + 2) 0 → v ≡ tokenSumAt s (messageOffset i + 3) + getD sums b 0
+  pub sums-turn : (sums : List ℕ) (i b v : ℕ) → length sums ≡ 32 → b < 32 → b ≡ getD s (messageOffset i + messageBlockOffset) 0 → v ≡ tokenSumAt s (messageOffset i + messagePlainOffset) + getD sums b 0
       → ((k : ℕ) → k < 32 → getD sums k 0 ≡ sumInFlight s i k) → (k : ℕ) → k < 32 → getD (set sums b v) k 0 ≡ sumInFlight s (i + 1) k
   sums-turn sums i b v n l eb ev f k q =
       at-set (λ w. w ≡ sumInFlight s (i + 1) k) sums b k v 0 (omega arith)
       (λ (e : k ≡ b).
-      ev ∙ (λ j. tokenSumAt s (messageOffset i + 3) + (ap (λ (z : ℕ). getD sums z 0) (sym e) ∙ f k q) j)
-      ∙ ap (λ (t : Bool). cond t (tokenSumAt s (messageOffset i + 3)) 0 + sumInFlight s i k) (sym (eq-eqb (getD s (messageOffset i + 2) 0) k (sym eb ∙ sym e)))
+      ev ∙ (λ j. tokenSumAt s (messageOffset i + messagePlainOffset) + (ap (λ (z : ℕ). getD sums z 0) (sym e) ∙ f k q) j)
+      ∙ ap (λ (t : Bool). cond t (tokenSumAt s (messageOffset i + messagePlainOffset)) 0 + sumInFlight s i k) (sym (eq-eqb (getD s (messageOffset i + messageBlockOffset) 0) k (sym eb ∙ sym e)))
       ∙ sym (flying-next i k))
       (λ (ne : k ≡ b → ⊥).
       f k q
       ∙ sym (zero-add (sumInFlight s i k))
-      ∙ ap (λ (t : Bool). cond t (tokenSumAt s (messageOffset i + 3)) 0 + sumInFlight s i k) (sym (ne-eqb (getD s (messageOffset i + 2) 0) k (λ e. ne (sym e ∙ sym eb))))
+      ∙ ap (λ (t : Bool). cond t (tokenSumAt s (messageOffset i + messagePlainOffset)) 0 + sumInFlight s i k) (sym (ne-eqb (getD s (messageOffset i + messageBlockOffset) 0) k (λ e. ne (sym e ∙ sym eb))))
       ∙ sym (flying-next i k))
 
 -- ---- a sum of weights is a sum of tokens and a sum of owners
@@ -132,27 +132,27 @@ module _ (s : List ℕ) (ok : Formed s) where
     message-bytes : messageAt (get s) i
         ≡ record {
           sender = getD s at 0;
-          target = getD s (at + 1) 0;
-          block = getD s (at + 2) 0;
-          plain = getD s (at + 3) 0;
-          owner = eqb (getD s (at + 4) 0) 1;
-          «data» = eqb (getD s (at + 5) 0) 1;
-          words = words .read (slice (at + 8) 32 s);
+          target = getD s (at + targetOffset) 0;
+          block = getD s (at + messageBlockOffset) 0;
+          plain = getD s (at + messagePlainOffset) 0;
+          owner = eqb (getD s (at + messageOwnerOffset) 0) 1;
+          «data» = eqb (getD s (at + dataOffset) 0) 1;
+          words = words .read (slice (at + messageWordsOffset) wordsSize s);
         }
     message-bytes = message-at s ok i l ∙ message-read s at
 
     message-weight : carriedSumAt s k at ≡ cond (eqb (messageAt (get s) i .block) k) (carried (messageAt (get s) i)) 0 + 65535 * cond (eqb (messageAt (get s) i .block) k) (owners (messageAt (get s) i .owner)) 0
     message-weight =
         subst (λ (x : Message). carriedSumAt s k at ≡ cond (eqb (x .block) k) (carried x) 0 + 65535 * cond (eqb (x .block) k) (owners (x .owner)) 0) (sym message-bytes)
-        (chosen-weight (eqb (getD s (at + 2) 0) k) (tokenSumAt s (at + 3)) (getD s (at + 3) 0 + toℕ (eqb (getD s (at + 4) 0) 1)) (toℕ (eqb (getD s (at + 4) 0) 1))
-        (ap (λ (j : ℕ). getD s (at + 3) 0 + getD s j 0 * 65536) (let e : at + 3 + 1 ≡ at + 4 = omega arith in e)
-        ∙ marked-weight (getD s (at + 3) 0) (getD s (at + 4) 0) (getD s (at + 5) 0) (and-l _ _ (sym (message-formed s at) ∙ message-stands s ok i l .wellFormed))))
+        (chosen-weight (eqb (getD s (at + messageBlockOffset) 0) k) (tokenSumAt s (at + messagePlainOffset)) (getD s (at + messagePlainOffset) 0 + toℕ (eqb (getD s (at + messageOwnerOffset) 0) 1)) (toℕ (eqb (getD s (at + messageOwnerOffset) 0) 1))
+        (ap (λ (j : ℕ). getD s (at + messagePlainOffset) 0 + getD s j 0 * 65536) (let e : at + 3 + 1 ≡ at + 4 = omega arith in e)
+        ∙ marked-weight (getD s (at + messagePlainOffset) 0) (getD s (at + messageOwnerOffset) 0) (getD s (at + dataOffset) 0) (and-l _ _ (sym (message-formed s at) ∙ message-stands s ok i l .wellFormed))))
 
     message-most : cond (eqb (messageAt (get s) i .block) k) (carried (messageAt (get s) i)) 0 ≤ 256
     message-most =
         subst (λ (x : Message). cond (eqb (x .block) k) (carried x) 0 ≤ 256) (sym message-bytes)
-        (cond-of (λ w. w ≤ 256) (eqb (getD s (at + 2) 0) k) (getD s (at + 3) 0 + toℕ (eqb (getD s (at + 4) 0) 1)) 0
-        (omega (arith, ok .bytes (at + 3), one-lt (eqb (getD s (at + 4) 0) 1))) (omega arith))
+        (cond-of (λ w. w ≤ 256) (eqb (getD s (at + messageBlockOffset) 0) k) (getD s (at + messagePlainOffset) 0 + toℕ (eqb (getD s (at + messageOwnerOffset) 0) 1)) 0
+        (omega (arith, ok .bytes (at + messagePlainOffset), one-lt (eqb (getD s (at + messageOwnerOffset) 0) 1))) (omega arith))
 
   -- ---- cells
 
@@ -211,8 +211,8 @@ module _ (s : List ℕ) (ok : Formed s) where
     unfolding laneSum
     resting =
         (λ i.
-        sum-short (plainAt s home) (suc n) 16 (omega (arith, ok .boards)) (λ j l u. lanes .no-plain j l u) i
-        + sum-short (ownerAt s home) (suc n) 16 (omega (arith, ok .boards)) (λ j l u. lanes .no-owner j l u) i * 65536)
+        sum-short (plainAt s home) (suc n) laneSize (omega (arith, ok .boards)) (λ j l u. lanes .no-plain j l u) i
+        + sum-short (ownerAt s home) (suc n) laneSize (omega (arith, ok .boards)) (λ j l u. lanes .no-owner j l u) i * 65536)
         ∙ sum-scaled (plainAt s home) (ownerAt s home) 65536 (suc n)
 
     weight-same : tokensTotal t s home (sumInFlight s m k) ≡ (eqb (tokensOf (get s) k) t && eqb (ownersOf (get s) k) 1)

@@ -104,29 +104,34 @@ module _ (n b m : ℕ) where
 
 -- ---- the places in a block: its claims, the tokens of a component, its words
 
+flags-length : (n : ℕ) (t : List ℕ) → length (zipped (lane flag (suc n)) (lane flag (suc n)) .read t) ≡ suc n
+flags-length n t =
+    zip-length (lane flag (suc n) .read (take laneSize t)) (lane flag (suc n) .read (slice laneSize laneSize t))
+    (length-lane flag (suc n) (take laneSize t) ∙ sym (length-lane flag (suc n) (slice laneSize laneSize t)))
+    ∙ length-lane flag (suc n) (take laneSize t)
+
 pub lanes-length : (n : ℕ) (s : List ℕ) → length (tokenLanes n .read s) ≡ suc n
 unfolding tokenLanes
 lanes-length n s =
     zip-length (lane byte (suc n) .read (take laneSize s)) (zipped (lane flag (suc n)) (lane flag (suc n)) .read (slice laneSize (2 * laneSize) s))
     (length-lane byte (suc n) (take laneSize s) ∙ sym (flags-length n (slice laneSize (2 * laneSize) s)))
     ∙ length-lane byte (suc n) (take laneSize s)
-  where
-    flags-length : (k : ℕ) (t : List ℕ) → length (zipped (lane flag (suc k)) (lane flag (suc k)) .read t) ≡ suc k
-    flags-length k t =
-        zip-length (lane flag (suc k) .read (take laneSize t)) (lane flag (suc k) .read (slice laneSize laneSize t))
-        (length-lane flag (suc k) (take laneSize t) ∙ sym (length-lane flag (suc k) (slice laneSize laneSize t)))
-        ∙ length-lane flag (suc k) (take laneSize t)
+
+-- the tokens of component c in the bytes of a block: one byte in each lane, read and written
+abbrev pub laneTokens : ℕ → List ℕ → Tokens
+laneTokens c s = (getD s c 0, (eqb (getD s (ownerOffset + c) 0) 1, eqb (getD s (validOffset + c) 0) 1))
+
+abbrev pub withLaneTokens : ℕ → Tokens → List ℕ → List ℕ
+withLaneTokens c v s = set (set (set s c (v .0)) (ownerOffset + c) (toℕ (v .1 .0))) (validOffset + c) (toℕ (v .1 .1))
 
 -- marks and counts in lanes: the three bytes of component c
 pub lanes-spread : (n : ℕ) → n ≤ 15 → (c : ℕ) → c ≤ n
     → Spread {B = Tokens} (tokenLanes n) (λ l. getD l c (0, (false, false))) (λ v l. set l c v)
-    (λ s. (getD s c 0, (eqb (getD s (ownerOffset + c) 0) 1, eqb (getD s (validOffset + c) 0) 1)))
-    (λ v s. set (set (set s c (v .0)) (ownerOffset + c) (toℕ (v .1 .0))) (validOffset + c) (toℕ (v .1 .1)))
+    (laneTokens c) (withLaneTokens c)
 unfolding tokenLanes
 lanes-spread n h c hc =
-    spread-as (spread-zipped (λ s t. length-lane byte (suc n) s ∙ sym (flags-length t)) c 0 (false, false) (spread-byte (suc n) (suc-le-suc h) c (suc-le-suc hc)) flags)
-    (λ s. (getD s c 0, (eqb (getD s (ownerOffset + c) 0) 1, eqb (getD s (validOffset + c) 0) 1)))
-    (λ v s. set (set (set s c (v .0)) (ownerOffset + c) (toℕ (v .1 .0))) (validOffset + c) (toℕ (v .1 .1)))
+    spread-as (spread-zipped (λ s t. length-lane byte (suc n) s ∙ sym (flags-length n t)) c 0 (false, false) (spread-byte (suc n) (suc-le-suc h) c (suc-le-suc hc)) flags)
+    (laneTokens c) (withLaneTokens c)
     (λ s. λ i. (
       getD-take laneSize s c 0 (omega arith) i,
       (
@@ -145,12 +150,6 @@ lanes-spread n h c hc =
     ∙ set-comm (set s (ownerOffset + c) (toℕ (v .1 .0))) (validOffset + c) c (toℕ (v .1 .1)) (v .0) (λ e. omega arith)
     ∙ ap (λ (t : List ℕ). set t (validOffset + c) (toℕ (v .1 .1))) (set-comm s (ownerOffset + c) c (toℕ (v .1 .0)) (v .0) (λ e. omega arith)))
   where
-    flags-length : (t : List ℕ) → length (zipped (lane flag (suc n)) (lane flag (suc n)) .read t) ≡ suc n
-    flags-length t =
-        zip-length (lane flag (suc n) .read (take laneSize t)) (lane flag (suc n) .read (slice laneSize laneSize t))
-        (length-lane flag (suc n) (take laneSize t) ∙ sym (length-lane flag (suc n) (slice laneSize laneSize t)))
-        ∙ length-lane flag (suc n) (take laneSize t)
-
     flags : Spread {B = Bool × Bool} (zipped (lane flag (suc n)) (lane flag (suc n))) (λ l. getD l c (false, false)) (λ v l. set l c v)
         (λ s. (eqb (getD s c 0) 1, eqb (getD s (ownerOffset + c) 0) 1)) (λ v s. set (set s (ownerOffset + c) (toℕ (v .1))) c (toℕ (v .0)))
     flags =
@@ -228,13 +227,11 @@ module _ (n : ℕ) (h : n ≤ 15) where
         (item words words-lawful zeros laneSize (suc n) c (suc-le-suc h) (suc-le-suc hc))
 
     tokens-here : Spread {B = Tokens} (blockTokens n) (λ l. getD l c (0, (false, false))) (λ v l. set l c v)
-        (λ s. (getD s c 0, (eqb (getD s (ownerOffset + c) 0) 1, eqb (getD s (validOffset + c) 0) 1)))
-        (λ v s. set (set (set s c (v .0)) (ownerOffset + c) (toℕ (v .1 .0))) (validOffset + c) (toℕ (v .1 .1)))
+        (laneTokens c) (withLaneTokens c)
     tokens-here =
         let k : ℕ = tokenLanes n .size in
         spread-as (spread-within lanes-here (lanes-spread n h c hc))
-        (λ s. (getD s c 0, (eqb (getD s (ownerOffset + c) 0) 1, eqb (getD s (validOffset + c) 0) 1)))
-        (λ v s. set (set (set s c (v .0)) (ownerOffset + c) (toℕ (v .1 .0))) (validOffset + c) (toℕ (v .1 .1)))
+        (laneTokens c) (withLaneTokens c)
         (λ s. λ i. (
           getD-take k s c 0 (omega (arith, lanes-size n)) i,
           (eqb (getD-take k s (ownerOffset + c) 0 (omega (arith, lanes-size n)) i) 1, eqb (getD-take k s (validOffset + c) 0 (omega (arith, lanes-size n)) i) 1),
@@ -244,14 +241,12 @@ module _ (n : ℕ) (h : n ≤ 15) where
 
     -- its tokens: three bytes, one in each lane
     pub tokens-spread : Spread (block n) (λ k. cellTokens (getD (k .cells) c noCell)) (withTokens c)
-        (λ s. (getD s c 0, (eqb (getD s (ownerOffset + c) 0) 1, eqb (getD s (validOffset + c) 0) 1)))
-        (λ v s. set (set (set s c (v .0)) (ownerOffset + c) (toℕ (v .1 .0))) (validOffset + c) (toℕ (v .1 .1)))
+        (laneTokens c) (withLaneTokens c)
     unfolding block
     tokens-spread =
         spread-iso
         (spread-as (spread-within (first (blockTokens n) (pair (blockClaims n) (blockWords n)) (block-tokens-lawful n h) rest-lawful) tokens-here)
-        (λ s. (getD s c 0, (eqb (getD s (ownerOffset + c) 0) 1, eqb (getD s (validOffset + c) 0) 1)))
-        (λ v s. set (set (set s c (v .0)) (ownerOffset + c) (toℕ (v .1 .0))) (validOffset + c) (toℕ (v .1 .1)))
+        (laneTokens c) (withLaneTokens c)
         (λ s. λ i. (getD-take claimsOffset s c 0 (omega arith) i, (eqb (getD-take claimsOffset s (ownerOffset + c) 0 (omega arith) i) 1, eqb (getD-take claimsOffset s (validOffset + c) 0 (omega arith) i) 1)))
         (λ v s l. front-three claimsOffset s (omega arith) c (ownerOffset + c) (validOffset + c) (v .0) (toℕ (v .1 .0)) (toℕ (v .1 .1)) (omega arith) (omega arith) (omega arith)))
         toBlock fromBlock (λ k. cellTokens (getD (k .cells) c noCell)) (withTokens c)
@@ -283,14 +278,14 @@ module _ (n : ℕ) (h : n ≤ 15) where
 
     -- both: the cell
     pub cell-spread : Spread {B = Tokens × List ℕ} (block n) (λ k. (cellTokens (getD (k .cells) c noCell), getD (k .cells) c noCell .words)) (λ v. withCellOf c (toCell v))
-        (λ s. ((getD s c 0, (eqb (getD s (ownerOffset + c) 0) 1, eqb (getD s (validOffset + c) 0) 1)), words .read (slice (wordsOffset + wordsSize * c) wordsSize s)))
-        (λ v s. modifyAt (wordsOffset + wordsSize * c) wordsSize (words .write (v .1)) (set (set (set s c (v .0 .0)) (ownerOffset + c) (toℕ (v .0 .1 .0))) (validOffset + c) (toℕ (v .0 .1 .1))))
+        (λ s. (laneTokens c s, words .read (slice (wordsOffset + wordsSize * c) wordsSize s)))
+        (λ v s. modifyAt (wordsOffset + wordsSize * c) wordsSize (words .write (v .1)) (withLaneTokens c (v .0) s))
     unfolding block
     cell-spread =
         spread-iso
         (spread-as (spread-pair tokens-here (spread-place words-here))
-        (λ s. ((getD s c 0, (eqb (getD s (ownerOffset + c) 0) 1, eqb (getD s (validOffset + c) 0) 1)), words .read (slice (wordsOffset + wordsSize * c) wordsSize s)))
-        (λ v s. modifyAt (wordsOffset + wordsSize * c) wordsSize (words .write (v .1)) (set (set (set s c (v .0 .0)) (ownerOffset + c) (toℕ (v .0 .1 .0))) (validOffset + c) (toℕ (v .0 .1 .1))))
+        (λ s. (laneTokens c s, words .read (slice (wordsOffset + wordsSize * c) wordsSize s)))
+        (λ v s. modifyAt (wordsOffset + wordsSize * c) wordsSize (words .write (v .1)) (withLaneTokens c (v .0) s))
         (λ s. λ i. (
           (getD-take claimsOffset s c 0 (omega arith) i, (eqb (getD-take claimsOffset s (ownerOffset + c) 0 (omega arith) i) 1, eqb (getD-take claimsOffset s (validOffset + c) 0 (omega arith) i) 1)),
           (ap (words .read) (part-part claimsOffset m (claimsRoom + c * z) z s (words-here .inside)) ∙ (λ j. words .read (slice (claimsOffset + (claimsRoom + c * words-size j)) (words-size j) s))
@@ -316,7 +311,7 @@ module _ (n : ℕ) (h : n ≤ 15) where
         far = omega arith
 
         three : Tokens × List ℕ → List ℕ → List ℕ
-        three v t = set (set (set t c (v .0 .0)) (ownerOffset + c) (toℕ (v .0 .1 .0))) (validOffset + c) (toℕ (v .0 .1 .1))
+        three v = withLaneTokens c (v .0)
 
         same-three : (v : Tokens × List ℕ) (t : List ℕ) → length (three v t) ≡ length t
         same-three v t = simp length-set

@@ -13,7 +13,7 @@ use Rattle.spec_base.proofs.Copies.{Full, full-byte, full-flag, full-big, full-
 use Rattle.spec_base.proofs.Padded.{room-lawful, zeroed-lawful, full-zeroed, padded-lawful, full-padded}
 use Rattle.spec_base.proofs.Lanes.{lane-lawful, zipped-lawful, zip-length, all-zip, all-mapped}
 use Rattle.spec_rack.specs.Claims.{Claims}
-use Rattle.spec_rack.specs.RecordLayout.{barringSets, toClaims, fromClaims, claims, Tokens, tokens, words, Endpoints, endpoints, messageHeader, toMessage, fromMessage, message, tokenLanes, toCell, cellTokens, toBlock, fromBlock, block, header, blockSize, claimsOffset, claimsRoom, claimsSize, lanesSize, messageSize, headerSize}
+use Rattle.spec_rack.specs.RecordLayout.{barringSets, toClaims, fromClaims, claims, Tokens, tokens, words, Endpoints, endpoints, messageHeader, toMessage, fromMessage, message, tokenLanes, toCell, cellTokens, toBlock, fromBlock, block, header, blockSize, claimsOffset, claimsRoom, claimsSize, lanesSize, messageSize, headerSize, laneSize}
 use Rattle.spec_rack.specs.declared.Message.{Message}
 use Rattle.spec_rack.specs.Rack.{Cell, Block}
 
@@ -135,7 +135,7 @@ abbrev pub blockClaims : ℕ → Layout Claims
 blockClaims n = padded room claimsRoom (claims n)
 
 abbrev pub blockWords : ℕ → Layout (List (List ℕ))
-blockWords n = items words 16 (suc n)
+blockWords n = items words laneSize (suc n)
 
 module _ (n : ℕ) (h : n ≤ 15) where
   pub flags-lawful : Lawful (zipped (lane flag (suc n)) (lane flag (suc n))) (Items (λ v. Unit {0} × Unit {0}) (suc n))
@@ -151,7 +151,7 @@ module _ (n : ℕ) (h : n ≤ 15) where
   block-tokens-lawful = padded-lawful room (λ k. refl) room-lawful claimsOffset (tokenLanes n) lanes-lawful (rw (lanes-size n) (omega arith))
 
   pub block-words-lawful : Lawful (blockWords n) (Items WordsFit (suc n))
-  block-words-lawful = items-lawful words words-lawful 16 (suc n) (suc-le-suc h)
+  block-words-lawful = items-lawful words words-lawful laneSize (suc n) (suc-le-suc h)
 
   pub sets-lawful : Lawful (barringSets n) (Items (λ v. v < 256 ^ 2) n)
   unfolding barringSets
