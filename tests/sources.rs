@@ -1,7 +1,7 @@
 //! Checks over the sources, before anything is proved: no public entry has a `requires`; each must-fail edit fits its crate; what the
 //! documents name is there; modules use only those before them; specifications and proofs say in their first line what they state; no
-//! number of the record's layout stands outside its definitions. Run at the root of the repository; it ends with 1 and says why where
-//! something is amiss.
+//! number of the record's layout stands outside its definitions; a deliver runs no code with an array and copies a message's words once.
+//! Run at the root of the repository; it ends with 1 and says why where something is amiss.
 
 use std::collections::{BTreeMap, BTreeSet};
 use std::fs;
@@ -18,6 +18,30 @@ const LAYOUT_NUMBERS: [&str; 3] = ["2592", "632", "22816"];
 const LAYOUT_FILES: [&str; 3] =
     ["crates/spec_rack/specs/RecordLayout.antt", "crates/spec_rack/specs/Readings.antt", "crates/spec_rack/src/lib.rt"];
 
+/// What a deliver runs at least. The first is where it starts.
+const DELIVER: [&str; 9] = [
+    "step_deliver::deliver",
+    "step_deliver::deliver_message",
+    "step_deliver::fill_target",
+    "record_mesh::header_at",
+    COPY_WORDS,
+    COPY_BYTES,
+    "step_checks::tokens::with_tokens",
+    "record::cells::set_token_state",
+    "record_mesh::remove",
+];
+
+/// What alone reads the words of a message that is delivered, the loop over bytes that it calls, and the offset that they are at.
+const COPY_WORDS: &str = "record_mesh::copy_words";
+const COPY_BYTES: &str = "record_mesh::bytes::copy_bytes";
+const WORDS_OF_MESSAGE: &str = "MESSAGE_WORDS_OFFSET";
+
+/// The functions that read or write eight words as an array.
+const WORD_ARRAYS: [&str; 3] = ["words_at", "put_words", "words_of"];
+
+/// Words of the language that are no names: a bracket behind one opens an array, and a parenthesis no arguments.
+const KEYWORDS: [&str; 14] = ["as", "break", "const", "else", "for", "if", "in", "let", "loop", "match", "move", "mut", "return", "while"];
+
 /// The longest line of a document, but for the rows of tables and for indented text, which cannot be wrapped.
 const LINE: usize = 160;
 
@@ -30,6 +54,7 @@ fn main() {
         modules(&crates, &mut bad),
         heads(&mut bad),
         layout_numbers(&mut bad),
+        deliver(&crates, &mut bad),
         documents(&crates, &mut bad),
     ];
     if !bad.is_empty() {
@@ -260,6 +285,207 @@ fn layout_numbers(bad: &mut Vec<String>) -> String {
         }
     }
     "layout: its numbers stand in the definitions alone".into()
+}
+
+/// A deliver runs no function with an array, and copies the words of a message once, from their offset to the target's.
+fn deliver(crates: &Crates, bad: &mut Vec<String>) -> String {
+    let (all, holders) = (functions(crates), array_holders(crates));
+    let run = reached(&all, DELIVER[0], bad);
+    for path in DELIVER.iter().filter(|path| !run.contains_key(*path)) {
+        bad.push(format!("deliver: {path} is not found among the functions that it runs"));
+    }
+    for (path, function) in &run {
+        if let Some(array) = array(&function.tokens) {
+            bad.push(format!("deliver: {path} has an array: {array}"));
+        }
+        for word in &function.tokens {
+            if WORD_ARRAYS.contains(&word.as_str()) && !path.ends_with(&format!("::{word}")) {
+                bad.push(format!("deliver: {path} has {word}, which is for arrays of words"));
+            }
+            if holders.contains(word) {
+                bad.push(format!("deliver: {path} has {word}, which holds an array"));
+            }
+        }
+    }
+    let readers: Vec<&str> = run.iter().filter(|(_, function)| function.has(WORDS_OF_MESSAGE)).map(|(path, _)| *path).collect();
+    if readers != [COPY_WORDS] {
+        bad.push(format!("deliver: {WORDS_OF_MESSAGE} must stand in {COPY_WORDS} alone; it stands in {readers:?}"));
+    }
+    let callers: Vec<&str> = run.iter().flat_map(|(path, function)| vec![*path; function.calls_of(COPY_WORDS)]).collect();
+    if callers.len() != 1 {
+        bad.push(format!("deliver: {COPY_WORDS} must be called at one place; it is called in {callers:?}"));
+    }
+    let loops = run.get(COPY_WORDS).map_or(0, |function| function.calls_of(COPY_BYTES));
+    if loops != 1 {
+        bad.push(format!("deliver: {COPY_WORDS} must call {COPY_BYTES} once; it has {loops} such calls"));
+    }
+    format!("deliver: {} functions, no array among them; the words are read by copy_words alone", run.len())
+}
+
+/// A function's signature and body as tokens, without comments and contract, and the full paths of what it calls.
+struct Function {
+    tokens: Vec<String>,
+    calls: Vec<String>,
+}
+
+impl Function {
+    fn has(&self, word: &str) -> bool {
+        self.tokens.iter().any(|token| token == word)
+    }
+
+    /// At how many places it calls a function.
+    fn calls_of(&self, path: &str) -> usize {
+        self.calls.iter().filter(|call| *call == path).count()
+    }
+}
+
+/// The functions that one runs, itself among them: all that it calls, and all that these call. A call that cannot be followed is amiss.
+fn reached<'a>(all: &'a BTreeMap<String, Function>, start: &'a str, bad: &mut Vec<String>) -> BTreeMap<&'a str, &'a Function> {
+    let mut found = BTreeMap::new();
+    let mut open = vec![start];
+    while let Some(path) = open.pop() {
+        let Some(function) = all.get(path) else { continue };
+        if found.insert(path, function).is_some() {
+            continue;
+        }
+        for call in &function.calls {
+            if !all.contains_key(call) {
+                bad.push(format!("deliver: {path} calls {call}, which this check cannot follow"));
+            }
+            open.push(call);
+        }
+    }
+    found
+}
+
+/// The functions of all crates by their full paths: crate::module::function, or crate::function where the root has it.
+fn functions(crates: &Crates) -> BTreeMap<String, Function> {
+    let mut found = BTreeMap::new();
+    for (name, files) in &crates.0 {
+        for (path, text) in files {
+            let stem = path.file_stem().expect("a file's name").to_string_lossy();
+            let module = if ["lib", "main"].contains(&&*stem) { name.clone() } else { format!("{name}::{stem}") };
+            let uses = text.lines().filter_map(|line| line.strip_prefix("use ")?.strip_suffix(';'));
+            let imports = uses.map(|path| (path.rsplit("::").next().expect("a last part"), full_path(crates, name, path))).collect();
+            for tokens in function_tokens(text) {
+                let function = tokens.iter().skip_while(|token| *token != "fn").nth(1).expect("a function's name");
+                let path = format!("{module}::{function}");
+                let calls = calls(&tokens).iter().map(|call| called_path(crates, name, &module, &imports, call)).collect();
+                found.insert(path, Function { tokens, calls });
+            }
+        }
+    }
+    found
+}
+
+/// The full path of an item that a crate names: what starts with no crate's name is in that crate.
+fn full_path(crates: &Crates, name: &str, path: &str) -> String {
+    match path.split_once("::") {
+        Some(("super" | "crate", rest)) => format!("{name}::{rest}"),
+        Some((first, _)) if crates.has(first) => path.to_string(),
+        _ => format!("{name}::{path}"),
+    }
+}
+
+/// The full path of a call in a module: by an import, by a path, or to the module itself.
+fn called_path(crates: &Crates, name: &str, module: &str, imports: &BTreeMap<&str, String>, call: &str) -> String {
+    let (first, rest) = call.find("::").map_or((call, ""), |at| call.split_at(at));
+    match imports.get(first) {
+        _ if call.contains(['.', '!', '<']) => call.to_string(),
+        Some(path) => format!("{path}{rest}"),
+        None if rest.is_empty() => format!("{module}::{call}"),
+        None => full_path(crates, name, call),
+    }
+}
+
+/// The tokens of each function of a file: its signature up to the contract, and its body.
+fn function_tokens(text: &str) -> Vec<Vec<String>> {
+    let mut found = Vec::new();
+    let code = code(text);
+    let mut lines = code.lines();
+    while let Some(mut line) = lines.next() {
+        if !["fn ", "pub fn ", "pub extern \"C\" fn "].iter().any(|head| line.starts_with(head)) {
+            continue;
+        }
+        let mut function = tokens(line);
+        let (mut body, mut contract) = (false, false);
+        while line != "}" {
+            body |= line.ends_with('{');
+            line = lines.next().expect("a function ends with a brace at the start of a line");
+            let clause = ["requires ", "ensures "].iter().any(|word| line.trim_start().starts_with(word));
+            contract = !body && line != "{" && (contract || clause);
+            if !contract {
+                function.extend(tokens(line));
+            }
+        }
+        found.push(function);
+    }
+    found
+}
+
+/// The structs, enums and constants with an array in them. Items stand apart by empty lines.
+fn array_holders(crates: &Crates) -> BTreeSet<String> {
+    let texts = crates.0.values().flat_map(|files| files.values()).map(|text| code(text));
+    let items: Vec<Vec<String>> = texts.flat_map(|text| text.split("\n\n").map(tokens).collect::<Vec<_>>()).collect();
+    let named = |pair: &[String]| ["struct", "enum", "const", "static"].contains(&pair[0].as_str()).then(|| pair[1].clone());
+    items.iter().filter(|item| array(item).is_some()).flat_map(|item| item.windows(2).filter_map(named)).collect()
+}
+
+/// A source file without comments and without the lines of the proofs.
+fn code(text: &str) -> String {
+    let lines = text.lines().filter(|line| !line.starts_with("ghost "));
+    lines.map(|line| line.split("//").next().expect("a first part").trim_end()).collect::<Vec<_>>().join("\n")
+}
+
+/// The words and signs of a text. `::` is one sign; every other sign is one character.
+fn tokens(text: &str) -> Vec<String> {
+    let mut found = Vec::new();
+    let mut rest = text.trim_start();
+    while let Some(first) = rest.chars().next() {
+        let word = rest.find(|c: char| !(c.is_alphanumeric() || c == '_')).unwrap_or(rest.len());
+        let sign = if rest.starts_with("::") { 2 } else { first.len_utf8() };
+        let (token, behind) = rest.split_at(if word > 0 { word } else { sign });
+        found.push(token.to_string());
+        rest = behind.trim_start();
+    }
+    found
+}
+
+/// Whether a token is a name: of a variable, a function, a type or a constant.
+fn is_name(token: &str) -> bool {
+    token.starts_with(|c: char| c.is_alphabetic() || c == '_') && !KEYWORDS.contains(&token)
+}
+
+/// The first array type or array value among tokens: a bracket that neither opens an index nor is that of `&[u8]` or `&mut [u8]`.
+fn array(tokens: &[String]) -> Option<String> {
+    let opens = (0..tokens.len()).filter(|at| tokens[*at] == "[");
+    let mut arrays = opens.filter(|at| {
+        let before: Vec<&str> = tokens[..*at].iter().rev().take(2).map(String::as_str).collect();
+        let index = before.first().is_some_and(|token| is_name(token) || [")", "]"].contains(token));
+        let slice = matches!(before[..], ["&", ..] | ["mut", "&"]) && tokens[at + 1..].starts_with(&["u8".into(), "]".into()]);
+        !index && !slice
+    });
+    arrays.next().map(|at| tokens[at..].iter().map(String::as_str).take_while(|token| *token != "]").collect::<Vec<_>>().join(" ") + " ]")
+}
+
+/// The calls among tokens as they are written; methods (`.f`), macros (`f!`) and calls with named types (`f::<`) are left for the caller to refuse.
+fn calls(tokens: &[String]) -> Vec<String> {
+    let mut found = Vec::new();
+    for at in (1..tokens.len()).filter(|at| tokens[*at] == "(" && is_name(&tokens[at - 1])) {
+        let mut start = at - 1;
+        while start > 1 && tokens[start - 1] == "::" {
+            start -= 2;
+        }
+        let before = start.checked_sub(1).map_or("", |at| &tokens[at]);
+        // what starts with a capital is a case of an enum
+        if before != "fn" && !tokens[at - 1].starts_with(char::is_uppercase) {
+            let method = if before == "." { "." } else { "" };
+            found.push(method.to_string() + &tokens[start..at].concat());
+        }
+    }
+    let unfollowed = |three: &&[String]| three[1] == "!" && is_name(&three[0]) && three[2] != "=" || three[1] == "::" && three[2] == "<";
+    found.extend(tokens.windows(3).filter(unfollowed).map(|three| three.concat()));
+    found
 }
 
 /// What the documents name is there: files of specifications and proofs, edits and how many a crate has, functions and types.

@@ -59,14 +59,14 @@ pub fn apply(rec: &mut [u8], sound: bool, parsed: Parsed) -> Reply
             data,
         } => {
             if sound {
-                step_transfer::send::send(rec, component, block, target, plain, owner, data)
+                step_send::send::send(rec, component, block, target, plain, owner, data)
             } else {
                 unsound()
             }
         }
         Step::Deliver { position } => {
             if sound {
-                step_transfer::deliver::deliver(rec, position)
+                step_deliver::deliver(rec, position)
             } else {
                 unsound()
             }
@@ -87,7 +87,7 @@ pub fn apply(rec: &mut [u8], sound: bool, parsed: Parsed) -> Reply
         }
         Step::Forward { component, block } => {
             if sound {
-                step_transfer::forward::forward(rec, component, block)
+                step_send::forward::forward(rec, component, block)
             } else {
                 unsound()
             }

@@ -67,12 +67,15 @@ module _ (s : List ℕ) (at : ℕ) where
 
   pub message-read : message .read (slice at messageSize s)
       ≡ record {
-        sender = getD s at 0;
-        target = getD s (at + targetOffset) 0;
-        block = getD s (at + messageBlockOffset) 0;
-        plain = getD s (at + messagePlainOffset) 0;
-        owner = eqb (getD s (at + messageOwnerOffset) 0) 1;
-        «data» = eqb (getD s (at + dataOffset) 0) 1;
+        header =
+            record {
+              sender = getD s at 0;
+              target = getD s (at + targetOffset) 0;
+              block = getD s (at + messageBlockOffset) 0;
+              plain = getD s (at + messagePlainOffset) 0;
+              owner = eqb (getD s (at + messageOwnerOffset) 0) 1;
+              «data» = eqb (getD s (at + dataOffset) 0) 1;
+            };
         words = words .read (slice (at + messageWordsOffset) wordsSize s);
       }
   unfolding message
@@ -102,7 +105,7 @@ module _ (s : List ℕ) (at : ℕ) where
 
 -- ---- the record is of the layout's form where each message is, and of each block the lanes and the claims
 
-words-formed : (t : List ℕ) → words .wellFormed t ≡ true
+pub words-formed : (t : List ℕ) → words .wellFormed t ≡ true
 unfolding words
 words-formed t = formed-below (big 4) 8 t ∙ below-of (λ i. true) 8 (λ i l. refl)
 

@@ -6,24 +6,24 @@ use mathlib.Core.Path.{_≡_, refl, sym, ap, _∙_, subst}
 use mathlib.Core.Bool.{true}
 use mathlib.Core.List.{List, [], _∷_, _++_}
 use lib.Dec.{eqb}
-use lib.ListN.{length, getD, set, take, drop, length-append, length-set}
+use lib.ListN.{length, getD, set, take, drop, length-append}
 use lib.Seq.{length-take-le, getD-take, getD-drop, set-append-left}
 use Rattle.spec_base.specs.Folds.{toℕ, removeAt}
 use Rattle.spec_base.specs.Layout.{Layout, slice, modifyAt, pair, items, readItems, writeItems}
 use Rattle.spec_base.proofs.Folds.{all-at}
 use Rattle.spec_base.proofs.Parts.{bytes-take, over-over, length-part, part-part}
-use Rattle.spec_base.proofs.Laws.{Stands, StandItems, stand-items, items-unchanged}
-use Rattle.spec_base.proofs.Places.{Place, within, item, over-in}
+use Rattle.spec_base.proofs.Laws.{Stands, StandItems}
+use Rattle.spec_base.proofs.Places.{Place, within, item}
 use Rattle.spec_base.proofs.Lanes.{over-three}
 use Rattle.spec_base.proofs.Copies.{items-more, items-removed}
 use Rattle.spec_rack.specs.Claims.{Claims}
-use Rattle.spec_rack.specs.RecordLayout.{claims, blockOffset, ownerOffset, validOffset, claimsOffset, wordsOffset, wordsSize, Tokens, words, toCell, cellTokens, message, block, header, rackLayout, layoutOf, get, put, blockSize, blocksIn, boardsIn, claimsSize, meshSize, messageCountOffset, messageOffset, messageSize, messagesIn, tokensIn, headerSize, meshRoom}
+use Rattle.spec_rack.specs.RecordLayout.{claims, blockOffset, cellWordsOffset, ownerOffset, validOffset, claimsOffset, wordsOffset, wordsSize, Tokens, words, toCell, cellTokens, message, block, header, rackLayout, layoutOf, get, put, blockSize, blocksIn, boardsIn, claimsSize, meshSize, messageCountOffset, messageOffset, messageSize, messagesIn, tokensIn, headerSize, meshRoom}
 use Rattle.spec_rack.specs.declared.Message.{Message}
 use Rattle.spec_rack.specs.Rack.{Block, noCell, noBlock, noMessage, blockAt, cellAt, claimsAt, messageAt}
 use Rattle.spec_rack.specs.Rules.{withClaims}
 use Rattle.record.specs.Changes.{withMesh, replaceCell}
 use Rattle.spec_rack.proofs.LayoutParts.{BlockFits, words-size, claims-size, message-size, header-size, message-lawful, message-full, header-lawful}
-use Rattle.spec_rack.proofs.GetPut.{withLaneTokens, count-write, mesh-place, claims-place, words-place, withWords, tokens-spread, cell-spread, Formed, law, boards-is, blocks-is, tokens-is, mesh-is, stands, read-figure, write-figure, stands-figure, read-spread, write-spread}
+use Rattle.spec_rack.proofs.GetPut.{withLaneTokens, count-write, mesh-place, claims-place, words-place, withWords, tokens-spread, Formed, law, boards-is, blocks-is, tokens-is, mesh-is, stands, read-figure, write-figure, stands-figure, read-spread, write-spread, mesh-items, mesh-stands, mesh-unchanged}
 
 -- the header is of its form whatever it holds
 pub header-formed : (s : List ℕ) → header .wellFormed s ≡ true
@@ -70,14 +70,6 @@ module _ (s : List ℕ) (ok : Formed s) where
         ≡ set (set (set s at (v .0)) (at + ownerOffset) (toℕ (v .1 .0))) (at + validOffset) (toℕ (v .1 .1))
     tokens-put v = write-spread s ok (tokens-spread (boardsIn s) (ok .boards) c hc) b hb v ∙ three-there v
 
-    -- other tokens and words change those and 32 bytes
-    pub cell-put : (v : Tokens) (ws : List ℕ) → put (replaceCell (get s) b c (toCell (v, ws))) s
-        ≡ modifyAt (blockOffset b + (wordsOffset + wordsSize * c)) wordsSize (words .write ws) (set (set (set s at (v .0)) (at + ownerOffset) (toℕ (v .1 .0))) (at + validOffset) (toℕ (v .1 .1)))
-    cell-put v ws =
-        write-spread s ok (cell-spread (boardsIn s) (ok .boards) c hc) b hb (v, ws)
-        ∙ sym (over-in (words .write ws) (withLaneTokens c v) (blockOffset b) blockSize (wordsOffset + wordsSize * c) wordsSize s (simp length-set) inside (omega (arith, known)))
-        ∙ ap (modifyAt (blockOffset b + (wordsOffset + wordsSize * c)) wordsSize (words .write ws)) (three-there v)
-
   -- as many cells as components
   pub cells-many : (b : ℕ) → b < blocksIn s → length (blockAt (get s) b .cells) ≡ suc (boardsIn s)
   unfolding get
@@ -87,13 +79,19 @@ module _ (s : List ℕ) (ok : Formed s) where
   -- ---- the words of a component, and one of them
 
   module _ (b c : ℕ) (hb : b < blocksIn s) (hc : c ≤ boardsIn s) where
-    pub words-at : (at : ℕ) → at ≡ blockOffset b + wordsOffset + wordsSize * c → cellAt (get s) b c .words ≡ words .read (slice at wordsSize s)
+    pub words-at : (at : ℕ) → at ≡ cellWordsOffset b c → cellAt (get s) b c .words ≡ words .read (slice at wordsSize s)
     words-at at e =
         read-figure s ok (words-place (boardsIn s) (ok .boards) c hc) b hb
         ∙ (λ i. words .read (slice (let q : blockOffset b + (wordsOffset + wordsSize * c) ≡ at = omega arith in q i) (words-size i) s))
 
+    -- other words change 32 bytes
+    pub words-put : (ws : List ℕ) → put (replaceCell (get s) b c (toCell (cellTokens (cellAt (get s) b c), ws))) s ≡ modifyAt (cellWordsOffset b c) wordsSize (words .write ws) s
+    words-put ws =
+        write-figure s ok (words-place (boardsIn s) (ok .boards) c hc) b hb ws
+        ∙ (λ i. modifyAt (let q : blockOffset b + (wordsOffset + wordsSize * c) ≡ cellWordsOffset b c = omega arith in q i) (words-size i) (words .write ws) s)
+
     -- a part of them
-    module _ {A : Type 0} {M : Layout A} {p : ℕ} {look : List ℕ → A} {change : A → List ℕ → List ℕ} (P : Place words M p look change) (at : ℕ) (e : at ≡ blockOffset b + wordsOffset + wordsSize * c + p) where
+    module _ {A : Type 0} {M : Layout A} {p : ℕ} {look : List ℕ → A} {change : A → List ℕ → List ℕ} (P : Place words M p look change) (at : ℕ) (e : at ≡ cellWordsOffset b c + p) where
       there : Place (block (boardsIn s)) M (wordsOffset + wordsSize * c + p) (λ k. look (getD (k .cells) c noCell .words)) (λ v k. withWords c (change v (getD (k .cells) c noCell .words)) k)
       there = within (words-place (boardsIn s) (ok .boards) c hc) P
 
@@ -131,19 +129,9 @@ module _ (s : List ℕ) (ok : Formed s) where
   place : Place (layoutOf s) (items message meshRoom (messagesIn s)) headerSize (λ v. v .1 .0) (λ x v. (v .0, (x, v .1 .1)))
   place = mesh-place (boardsIn s) (blocksIn s) (messagesIn s) (ok .boards) (ok .messages)
 
-  slots : List ℕ
-  slots = slice headerSize (meshRoom * message .size) s
-
-  pub mesh-items : get s .mesh ≡ readItems message (messagesIn s) (slice headerSize (meshRoom * message .size) s)
-  unfolding get
-  mesh-items = place .looks s
-
-  pub mesh-stands : StandItems message (messagesIn s) (slice headerSize (meshRoom * message .size) s)
-  mesh-stands = stand-items message meshRoom (messagesIn s) (slice headerSize (meshRoom * message .size) s) (ok .messages) (place .stands s (stands s ok))
-
   pub message-at : (i : ℕ) → i < messagesIn s → messageAt (get s) i ≡ message .read (slice (messageOffset i) messageSize s)
   message-at i h =
-      ap (λ (l : List Message). getD l i noMessage) mesh-items
+      ap (λ (l : List Message). getD l i noMessage) (mesh-items s ok)
       ∙ item message message-lawful noMessage meshRoom (messagesIn s) i (ok .messages) h .looks (slice headerSize (meshRoom * message .size) s)
       ∙ ap (message .read)
       (part-part headerSize (meshRoom * message .size) (i * message .size) (message .size) s (item message message-lawful noMessage meshRoom (messagesIn s) i (ok .messages) h .inside)
@@ -192,11 +180,6 @@ module _ (s : List ℕ) (ok : Formed s) where
       (sym (header-lawful .unchanged (take k s) (record { bytes = bytes-take k s (ok .bytes); wellFormed = header-formed (take k s); room = le-of-eq (sym lk) })))
       ∙ same-count l)
 
-  mesh-unchanged : writeItems message (get s .mesh) (slice headerSize (meshRoom * message .size) s) ≡ slice headerSize (meshRoom * message .size) s
-  mesh-unchanged =
-      ap (λ (l : List Message). writeItems message l (slice headerSize (meshRoom * message .size) s)) (mesh-items s ok)
-      ∙ items-unchanged message message-lawful (messagesIn s) (slice headerSize (meshRoom * message .size) s) (mesh-stands s ok)
-
   slots-length : length (slice headerSize (meshRoom * message .size) s) ≡ meshRoom * message .size
   slots-length = length-part headerSize (meshRoom * message .size) s (rw message-size (omega (arith, ok .room)))
 
@@ -223,7 +206,7 @@ module _ (s : List ℕ) (ok : Formed s) where
       ∙ ap (λ (j : ℕ). set (modifyAt headerSize (meshRoom * k) (writeItems message (get s .mesh ++ m ∷ [])) s) messageCountOffset j) (length-append (get s .mesh) (m ∷ []) ∙ ap (λ (j : ℕ). j + 1) e)
       ∙ ap (λ (r : List ℕ). set (take headerSize s ++ (r ++ drop (headerSize + meshRoom * k) s)) messageCountOffset (n + 1))
       (items-more message message-lawful (get s .mesh) m t (le-trans (mul-le-mul-right k (le-trans (le-of-eq (ap suc e)) h)) (le-of-eq (sym slots-length)))
-      ∙ (λ i. modifyAt (e i * k) k (message .write m) (mesh-unchanged i)))
+      ∙ (λ i. modifyAt (e i * k) k (message .write m) (mesh-unchanged s ok i)))
       ∙ ap (λ (r : List ℕ). set r messageCountOffset (n + 1))
       (over-over (message .write m) headerSize (meshRoom * k) (n * k) k s (slot-inside n h) ∙ ap (λ (j : ℕ). modifyAt (headerSize + n * j) j (message .write m) s) message-size
       ∙ ap (λ (j : ℕ). modifyAt j messageSize (message .write m) s) (let q : headerSize + n * messageSize ≡ messageOffset n = omega arith in q)))

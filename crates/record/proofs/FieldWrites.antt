@@ -1,14 +1,11 @@
 -- Tokens, words, cells and messages, written byte by byte as code writes them: by the laws of two values one behind the other.
-use Prim.Native.Nat.{ℕ, zero, suc, _+_, _/_, _%_, _^_, _≤_, _<_}
-use native.Mathlib.Nat.{zero-add, suc-add}
-use native.Mathlib.Numerals.{unary-clauses, one-add}
+use Prim.Native.Nat.{ℕ, _+_, _≤_}
 use native.Mathlib.Omega.{arith}
 use mathlib.Core.Path.{_≡_, refl, sym, ap, _∙_}
 use mathlib.Core.Bool.{Bool}
 use mathlib.Core.List.{List, [], _∷_}
 use lib.Dec.{eqb}
-use lib.ListN.{length, getD, set, take, drop, length-set, take-append-drop}
-use lib.Seq.{take-take}
+use lib.ListN.{length, getD, set, take, length-set}
 use Rattle.spec_base.specs.Folds.{toℕ}
 use Rattle.spec_base.specs.Layout.{slice, modifyAt, byte, flag, pair, zeroed}
 use Rattle.spec_base.proofs.Laws.{byte-lawful, flag-lawful, pair-lawful, cuts-length}
@@ -85,12 +82,12 @@ heading-write p v s l =
 
 pub message-write : (p : ℕ) (m : Message) (s : List ℕ) → p + messageSize ≤ length s
     → modifyAt (p + messageWordsOffset) wordsSize (words .write (m .words))
-    (set (set (modifyAt (p + messagePlainOffset) 3 (tokens .write (m .plain, (m .owner, m .«data»))) (set (set (set s p (m .sender)) (p + targetOffset) (m .target)) (p + messageBlockOffset) (m .block))) (p + messageZeroOffset) 0) (p + messageLastZeroOffset) 0)
+    (set (set (modifyAt (p + messagePlainOffset) 3 (tokens .write (m .header .plain, (m .header .owner, m .header .«data»))) (set (set (set s p (m .header .sender)) (p + targetOffset) (m .header .target)) (p + messageBlockOffset) (m .header .block))) (p + messageZeroOffset) 0) (p + messageLastZeroOffset) 0)
     ≡ modifyAt p messageSize (message .write m) s
 unfolding message
 message-write p m s l =
     let v : Endpoints × Tokens = fromMessage m .0 in
-    ap (λ (t : List ℕ). modifyAt (p + messageWordsOffset) wordsSize (words .write (m .words)) (set (set (modifyAt (p + messagePlainOffset) 3 (tokens .write (v .1)) t) (p + messageZeroOffset) 0) (p + messageLastZeroOffset) 0)) (ends-write p (m .sender) (m .target) (m .block) s (omega arith))
+    ap (λ (t : List ℕ). modifyAt (p + messageWordsOffset) wordsSize (words .write (m .words)) (set (set (modifyAt (p + messagePlainOffset) 3 (tokens .write (v .1)) t) (p + messageZeroOffset) 0) (p + messageLastZeroOffset) 0)) (ends-write p (m .header .sender) (m .header .target) (m .header .block) s (omega arith))
     ∙ ap (modifyAt (p + messageWordsOffset) wordsSize (words .write (m .words))) (heading-write p v s (omega arith))
     ∙ (λ i. modifyAt (p + sym heading-size i) (sym words-size i) (words .write (m .words)) (modifyAt p (sym heading-size i) (messageHeader .write v) s))
     ∙ sym (write-pair messageHeader words p s heading-lawful (fromMessage m) (rw (heading-size, words-size) l))

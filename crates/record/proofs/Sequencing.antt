@@ -15,7 +15,7 @@ use Rattle.spec_rack.specs.RecordLayout.{recordLength, get, put}
 use Rattle.record.specs.Needs.{InLayout, CellInRecord}
 use Rattle.record.specs.Changes.{withMesh, replaceCell}
 use Rattle.spec_rack.proofs.LayoutParts.{CellFits, MessageFits, BlockFits}
-use Rattle.spec_rack.proofs.GetPut.{Formed, Fits, well-formed, boards-is, blocks-is, get-put, put-formed, put-put}
+use Rattle.spec_rack.proofs.GetPut.{Formed, Fits, well-formed, boards-is, blocks-is, get-put, put-formed, put-put, put-changed}
 use Rattle.record.proofs.FieldAccess.{wellFormed}
 use Rattle.spec_rack.proofs.Representable.{holdable}
 use Rattle.spec_rack.proofs.SoundRecord.{words-fit}
@@ -95,3 +95,9 @@ module _ (s : List ℕ) (bytes : Bytes s) (whole : InLayout s) (q : Rack) (fits 
       → (s₂ : List ℕ) → s₂ ≡ put r s₁ → s₂ ≡ put r s
   then r fits′ e k m s₂ is′ =
       is′ ∙ ap (put r) is ∙ put-put r fits′ s (omega (arith, whole .room, blocks-is s)) q fits (sym e) (sym k) m
+
+  -- and, where q has the messages of s, with a rack of any number of messages
+  pub then-any : q .mesh ≡ get s .mesh → (r : Rack) → Fits r → r .boards ≡ q .boards → length (r .blocks) ≡ length (q .blocks)
+      → (s₂ : List ℕ) → s₂ ≡ put r s₁ → s₂ ≡ put r s
+  then-any m r fits′ e k s₂ is′ =
+      is′ ∙ ap (put r) is ∙ put-changed r fits′ s (omega (arith, whole .room, blocks-is s)) q fits (sym e) (sym k) (wellFormed s bytes whole) m

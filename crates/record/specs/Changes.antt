@@ -13,12 +13,12 @@ pub record TokenStateOf (x : Cell) (h : TokenState) : Type 0 where
   pub owner : h .owner ≡ x .owner
   pub valid : h .valid ≡ x .valid
 
--- the cell with other marks and the same words, and with other marks and words
+-- the cell with other marks and the same words, and with the same marks and other words
 abbrev pub withTokenState : Cell → TokenState → Cell
 withTokenState x h = record { plain = h .plain; owner = h .owner; valid = h .valid; words = x .words }
 
-abbrev pub newCell : TokenState → List ℕ → Cell
-newCell h ws = record { plain = h .plain; owner = h .owner; valid = h .valid; words = ws }
+abbrev pub withWords : Cell → List ℕ → Cell
+withWords x ws = record { plain = x .plain; owner = x .owner; valid = x .valid; words = ws }
 
 -- a rack with another cell
 abbrev pub replaceCell : Rack → ℕ → ℕ → Cell → Rack

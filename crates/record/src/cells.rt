@@ -4,9 +4,9 @@ ghost use Prim.Native.Nat.{_+_, _*_, _<_};
 ghost use lib.ListN.{getD};
 ghost use Rattle.spec_rack.specs.Rack.{cellAt};
 ghost use Rattle.spec_rack.specs.Rules.{stored};
-ghost use Rattle.spec_rack.specs.RecordLayout.{blockOffset, wordsOffset, wordsSize, get, put};
+ghost use Rattle.spec_rack.specs.RecordLayout.{blockOffset, cellWordsOffset, get, put};
 ghost use Rattle.record.specs.Needs.{CellInRecord};
-ghost use Rattle.record.specs.Changes.{TokenStateOf, withTokenState, newCell, replaceCell};
+ghost use Rattle.record.specs.Changes.{TokenStateOf, withTokenState, replaceCell};
 use super::TokenState;
 use super::tokens;
 use super::words;
@@ -36,7 +36,7 @@ pub fn plain_offset(block: u8, component: u8) -> usize
 
 // The offset of a component's words in a block.
 pub fn words_offset(block: u8, component: u8) -> usize
-    ensures { λ r. ⌜ r ≡ blockOffset block + wordsOffset + wordsSize * component ⌝ }
+    ensures { λ r. ⌜ r ≡ cellWordsOffset block component ⌝ }
 {
     BLOCKS_OFFSET + BLOCK_SIZE * (block as usize) + WORDS_OFFSET + WORDS_SIZE * (component as usize)
 }
@@ -61,17 +61,6 @@ pub fn set_token_state(rec: &mut [u8], block: u8, component: u8, state: TokenSta
 {
     let at = plain_offset(block, component);
     tokens::put_lanes(rec, at, state);
-}
-
-// Writes a cell's token state and words.
-pub fn set_cell(rec: &mut [u8], block: u8, component: u8, state: TokenState, values: [u32; 8])
-    requires { ⌜ CellInRecord (now rec) block component ⌝ }
-    ensures { λ r. ⌜ now (rec .exit) ≡ put (replaceCell (get (now (rec .entry))) block component (newCell state values)) (now (rec .entry)) ⌝ }
-{
-    let at = plain_offset(block, component);
-    let place = words_offset(block, component);
-    tokens::put_lanes(rec, at, state);
-    words::put_words(rec, place, values);
 }
 
 // A word of a cell.

@@ -1,7 +1,6 @@
 // The record's fields, read and written at their offsets. spec_rack's RecordLayout has the layout.
-// order: lib, sizes, words, tokens, cells, mesh
+// order: lib, sizes, words, tokens, cells
 pub mod cells;
-pub mod mesh;
 pub mod sizes;
 pub mod tokens;
 pub mod words;

@@ -131,26 +131,29 @@ module _ (s : List ℕ) (ok : Formed s) where
 
     message-bytes : messageAt (get s) i
         ≡ record {
-          sender = getD s at 0;
-          target = getD s (at + targetOffset) 0;
-          block = getD s (at + messageBlockOffset) 0;
-          plain = getD s (at + messagePlainOffset) 0;
-          owner = eqb (getD s (at + messageOwnerOffset) 0) 1;
-          «data» = eqb (getD s (at + dataOffset) 0) 1;
+          header =
+              record {
+                sender = getD s at 0;
+                target = getD s (at + targetOffset) 0;
+                block = getD s (at + messageBlockOffset) 0;
+                plain = getD s (at + messagePlainOffset) 0;
+                owner = eqb (getD s (at + messageOwnerOffset) 0) 1;
+                «data» = eqb (getD s (at + dataOffset) 0) 1;
+              };
           words = words .read (slice (at + messageWordsOffset) wordsSize s);
         }
     message-bytes = message-at s ok i l ∙ message-read s at
 
-    message-weight : carriedSumAt s k at ≡ cond (eqb (messageAt (get s) i .block) k) (carried (messageAt (get s) i)) 0 + 65535 * cond (eqb (messageAt (get s) i .block) k) (owners (messageAt (get s) i .owner)) 0
+    message-weight : carriedSumAt s k at ≡ cond (eqb (messageAt (get s) i .header .block) k) (carried (messageAt (get s) i)) 0 + 65535 * cond (eqb (messageAt (get s) i .header .block) k) (owners (messageAt (get s) i .header .owner)) 0
     message-weight =
-        subst (λ (x : Message). carriedSumAt s k at ≡ cond (eqb (x .block) k) (carried x) 0 + 65535 * cond (eqb (x .block) k) (owners (x .owner)) 0) (sym message-bytes)
+        subst (λ (x : Message). carriedSumAt s k at ≡ cond (eqb (x .header .block) k) (carried x) 0 + 65535 * cond (eqb (x .header .block) k) (owners (x .header .owner)) 0) (sym message-bytes)
         (chosen-weight (eqb (getD s (at + messageBlockOffset) 0) k) (tokenSumAt s (at + messagePlainOffset)) (getD s (at + messagePlainOffset) 0 + toℕ (eqb (getD s (at + messageOwnerOffset) 0) 1)) (toℕ (eqb (getD s (at + messageOwnerOffset) 0) 1))
         (ap (λ (j : ℕ). getD s (at + messagePlainOffset) 0 + getD s j 0 * 65536) (let e : at + 3 + 1 ≡ at + 4 = omega arith in e)
         ∙ marked-weight (getD s (at + messagePlainOffset) 0) (getD s (at + messageOwnerOffset) 0) (getD s (at + dataOffset) 0) (and-l _ _ (sym (message-formed s at) ∙ message-stands s ok i l .wellFormed))))
 
-    message-most : cond (eqb (messageAt (get s) i .block) k) (carried (messageAt (get s) i)) 0 ≤ 256
+    message-most : cond (eqb (messageAt (get s) i .header .block) k) (carried (messageAt (get s) i)) 0 ≤ 256
     message-most =
-        subst (λ (x : Message). cond (eqb (x .block) k) (carried x) 0 ≤ 256) (sym message-bytes)
+        subst (λ (x : Message). cond (eqb (x .header .block) k) (carried x) 0 ≤ 256) (sym message-bytes)
         (cond-of (λ w. w ≤ 256) (eqb (getD s (at + messageBlockOffset) 0) k) (getD s (at + messagePlainOffset) 0 + toℕ (eqb (getD s (at + messageOwnerOffset) 0) 1)) 0
         (omega (arith, ok .bytes (at + messagePlainOffset), one-lt (eqb (getD s (at + messageOwnerOffset) 0) 1))) (omega arith))
 
@@ -220,8 +223,8 @@ module _ (s : List ℕ) (ok : Formed s) where
     weight-same =
         let cs : List Cell = blockAt (get s) k .cells in
         let ms : List Message = get s .mesh in
-        let g : Message → ℕ = λ x. cond (eqb (x .block) k) (carried x) 0 in
-        let o : Message → ℕ = λ x. cond (eqb (x .block) k) (owners (x .owner)) 0 in
+        let g : Message → ℕ = λ x. cond (eqb (x .header .block) k) (carried x) 0 in
+        let o : Message → ℕ = λ x. cond (eqb (x .header .block) k) (owners (x .header .owner)) 0 in
         let few : sum held cs ≤ suc n * 256 = list-most noCell cs (suc n) cells-length held (λ x. owners (x .owner)) cell-most in
         let some : sum g ms ≤ m * 256 = list-most noMessage ms m (mesh-is s) g o (message-most k) in
         halves (laneSum s home + laneSum s (home + ownerOffset) * 65536) (sumInFlight s m k) (sum held cs) (sum (λ x. owners (x .owner)) cs) (sum g ms) (sum o ms) t

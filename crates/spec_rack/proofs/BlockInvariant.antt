@@ -22,20 +22,20 @@ abbrev pub cellOwners : Cell → ℕ
 cellOwners x = owners (x .owner)
 
 abbrev pub messageOwners : Message → ℕ
-messageOwners m = owners (m .owner)
+messageOwners m = owners (m .header .owner)
 
 -- ---- a figure of one message, in the sum of a block's
 
-pub counted : (g : Message → ℕ) (b : ℕ) (m : Message) → m .block ≡ b → cond (eqb (m .block) b) (g m) 0 ≡ g m
-counted g b m e = ap (λ (t : Bool). cond t (g m) 0) (eq-eqb (m .block) b e)
+pub counted : (g : Message → ℕ) (b : ℕ) (m : Message) → m .header .block ≡ b → cond (eqb (m .header .block) b) (g m) 0 ≡ g m
+counted g b m e = ap (λ (t : Bool). cond t (g m) 0) (eq-eqb (m .header .block) b e)
 
-pub not-counted : (g : Message → ℕ) (b : ℕ) (m : Message) → (m .block ≡ b → ⊥) → cond (eqb (m .block) b) (g m) 0 ≡ 0
-not-counted g b m ne = ap (λ (t : Bool). cond t (g m) 0) (ne-eqb (m .block) b ne)
+pub not-counted : (g : Message → ℕ) (b : ℕ) (m : Message) → (m .header .block ≡ b → ⊥) → cond (eqb (m .header .block) b) (g m) 0 ≡ 0
+not-counted g b m ne = ap (λ (t : Bool). cond t (g m) 0) (ne-eqb (m .header .block) b ne)
 
-pub in-flight-at : (r : Rack) (g : Message → ℕ) (i : ℕ) → i < length (r .mesh) → g (messageAt r i) ≤ inFlight g (messageAt r i .block) (r .mesh)
+pub in-flight-at : (r : Rack) (g : Message → ℕ) (i : ℕ) → i < length (r .mesh) → g (messageAt r i) ≤ inFlight g (messageAt r i .header .block) (r .mesh)
 in-flight-at r g i h =
     let m = messageAt r i in
-    omega (arith, counted g (m .block) m refl, sum-at (λ (y : Message). cond (eqb (y .block) (m .block)) (g y) 0) (r .mesh) i noMessage h)
+    omega (arith, counted g (m .header .block) m refl, sum-at (λ (y : Message). cond (eqb (y .header .block) (m .header .block)) (g y) 0) (r .mesh) i noMessage h)
 
 -- ---- a property of every cell, by its block, and of every message
 
@@ -49,7 +49,7 @@ abbrev pub CellHas : Memory → ℕ → Cell → Type 0
 CellHas mem b x = x .valid ≡ true → x .words ≡ getD mem b []
 
 abbrev pub MessageHas : Memory → Message → Type 0
-MessageHas mem m = m .«data» ≡ true → m .words ≡ getD mem (m .block) []
+MessageHas mem m = m .header .«data» ≡ true → m .words ≡ getD mem (m .header .block) []
 
 pub record Coherent (r : Rack) (mem : Memory) : Type 0 where
   pub rows : length mem ≡ length (r .blocks)
@@ -97,9 +97,9 @@ module _ (r : Rack) (s : Sound r) where
   cell-few b c inB inN =
       omega (arith, few-tokens, s .blocks b inB .tokens, sum-at held (blockAt r b .cells) c noCell (cell-in b c inB inN))
 
-  pub message-few : (i : ℕ) → i < length (r .mesh) → messageAt r i .plain ≤ 64
+  pub message-few : (i : ℕ) → i < length (r .mesh) → messageAt r i .header .plain ≤ 64
   message-few i h =
-      omega (arith, few-tokens, s .blocks (messageAt r i .block) (message-sound i h .block) .tokens, in-flight-at r carried i h)
+      omega (arith, few-tokens, s .blocks (messageAt r i .header .block) (message-sound i h .block) .tokens, in-flight-at r carried i h)
 
 -- ---- the rack with another block k at b, and another mesh
 

@@ -26,7 +26,7 @@ module _ (r : Rack) (s : Sound r) (c b : ℕ) (inN : c ≤ r .boards) (inB : b <
       )
 
   -- no message of the block is in flight
-  quiet : (i : ℕ) → i < length (r .mesh) → messageAt r i .block ≡ b → ⊥
+  quiet : (i : ℕ) → i < length (r .mesh) → messageAt r i .header .block ≡ b → ⊥
   quiet i l e =
       omega (
         arith,
@@ -64,7 +64,7 @@ module _ (r : Rack) (s : Sound r) (c b : ℕ) (inN : c ≤ r .boards) (inB : b <
               (CellHas mem′) (MessageHas mem′) here
               (λ j l ne. all-map (CellHas mem j) (CellHas mem′ j) (blockAt r j .cells) (coh .has .cells j l) (λ y f u. f u ∙ sym (other j ne)))
               (all-of (MessageHas mem′) noMessage (r .mesh)
-              (λ i l d. all-at (MessageHas mem) (r .mesh) (coh .has .mesh) i noMessage l d ∙ sym (other (messageAt r i .block) (quiet i l))));
+              (λ i l d. all-at (MessageHas mem) (r .mesh) (coh .has .mesh) i noMessage l d ∙ sym (other (messageAt r i .header .block) (quiet i l))));
         }
       where
         row : List ℕ

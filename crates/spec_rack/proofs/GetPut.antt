@@ -1,11 +1,11 @@
 -- The record's laws: what is written is read back, to write what is read changes nothing, a second write covers a first,
 -- and each figure of the rack has a place of its own. All follow from the laws of the parts.
-use Prim.Native.Nat.{ℕ, suc, _+_, _*_, _-_, _≤_, _<_, suc-le-suc}
+use Prim.Native.Nat.{ℕ, suc, _+_, _*_, _≤_, _<_, suc-le-suc}
 use native.Mathlib.Nat.{le-refl, zero-add, le-trans, le-of-eq, mul-le-mul-right}
 use native.Mathlib.Omega.{arith}
 use mathlib.Core.Path.{_≡_, refl, sym, ap, _∙_, subst}
 use mathlib.Core.Bool.{Bool, true, false}
-use mathlib.Core.List.{List, [], _∷_, _++_, map}
+use mathlib.Core.List.{List, [], _∷_, map}
 use lib.Dec.{eqb, leb}
 use lib.ListN.{length, getD, set, take, drop, length-set, List·getD-map}
 use lib.Seq.{length-take-le, take-take, getD-take, getD-drop, set-comm, set-getD}
@@ -13,12 +13,12 @@ use borrow.Author.Tests.{leb-true, le-leb}
 use Rattle.spec_base.specs.Folds.{toℕ, All, zip}
 use Rattle.spec_base.proofs.Tests.{and-l, and-r, and-of}
 use Rattle.spec_base.specs.Number.{Bytes}
-use Rattle.spec_base.specs.Layout.{Layout, slice, modifyAt, byte, flag, pair, items, room, lane, zipped}
-use Rattle.spec_base.proofs.Parts.{bytes-take, length-part, part-part, over-over}
-use Rattle.spec_base.proofs.Laws.{Stands, Lawful, byte-lawful, pair-lawful, pair-again, items-again, items-lawful, Items, length-readItems, cut-rest}
+use Rattle.spec_base.specs.Layout.{Layout, slice, modifyAt, byte, flag, pair, items, readItems, writeItems, room, lane, zipped}
+use Rattle.spec_base.proofs.Parts.{bytes-take, length-part}
+use Rattle.spec_base.proofs.Laws.{Stands, StandItems, stand-items, Lawful, byte-lawful, pair-lawful, pair-again, items-again, items-unchanged, items-lawful, Items, length-readItems, cut-rest}
 use Rattle.spec_base.proofs.Places.{Place, within, first, second, item, write-byte}
 use Rattle.spec_base.proofs.Padded.{room-lawful, padded-place}
-use Rattle.spec_base.proofs.Lanes.{zip-length, zip-at, map-set, length-lane, Spread, place-iso, spread-place, spread-within, spread-as, spread-iso, spread-pair, over-both, spread-zipped, spread-byte, spread-flag, set-first, over-set, over-none, over-three}
+use Rattle.spec_base.proofs.Lanes.{zip-length, zip-at, map-set, length-lane, Spread, place-iso, spread-within, spread-as, spread-iso, spread-zipped, spread-byte, spread-flag, set-first, over-set, over-none, over-three}
 use Rattle.spec_rack.specs.Claims.{Claims}
 use Rattle.spec_rack.specs.RecordLayout.{claims, headerSize, blockSize, blockOffset, ownerOffset, validOffset, wordsOffset, wordsSize, Tokens, tokens, words, message, tokenLanes, toCell, cellTokens, toBlock, fromBlock, block, header, RackFields, rackLayout, recordLength, toRack, fromRack, layoutOf, get, put, blocksIn, boardsIn, claimsOffset, claimsRoom, messagesIn, tokensIn, meshRoom, laneSize}
 use Rattle.spec_rack.specs.declared.Message.{Message}
@@ -276,46 +276,6 @@ module _ (n : ℕ) (h : n ≤ 15) where
           (raw .read s .1 .0, set-words s (toCell (cellTokens (getD (toBlock (raw .read s) .cells) c noCell), v)) i),
         )))
 
-    -- both: the cell
-    pub cell-spread : Spread {B = Tokens × List ℕ} (block n) (λ k. (cellTokens (getD (k .cells) c noCell), getD (k .cells) c noCell .words)) (λ v. withCellOf c (toCell v))
-        (λ s. (laneTokens c s, words .read (slice (wordsOffset + wordsSize * c) wordsSize s)))
-        (λ v s. modifyAt (wordsOffset + wordsSize * c) wordsSize (words .write (v .1)) (withLaneTokens c (v .0) s))
-    unfolding block
-    cell-spread =
-        spread-iso
-        (spread-as (spread-pair tokens-here (spread-place words-here))
-        (λ s. (laneTokens c s, words .read (slice (wordsOffset + wordsSize * c) wordsSize s)))
-        (λ v s. modifyAt (wordsOffset + wordsSize * c) wordsSize (words .write (v .1)) (withLaneTokens c (v .0) s))
-        (λ s. λ i. (
-          (getD-take claimsOffset s c 0 (omega arith) i, (eqb (getD-take claimsOffset s (ownerOffset + c) 0 (omega arith) i) 1, eqb (getD-take claimsOffset s (validOffset + c) 0 (omega arith) i) 1)),
-          (ap (words .read) (part-part claimsOffset m (claimsRoom + c * z) z s (words-here .inside)) ∙ (λ j. words .read (slice (claimsOffset + (claimsRoom + c * words-size j)) (words-size j) s))
-              ∙ ap (λ (k : ℕ). words .read (slice k wordsSize s)) far) i,
-        ))
-        (λ v s l.
-        over-both (three v) (modifyAt (claimsRoom + c * z) z (words .write (v .1))) claimsOffset m s (same-three v (take claimsOffset s)) l
-        ∙ over-over (words .write (v .1)) claimsOffset m (claimsRoom + c * z) z (three v (take claimsOffset s) ++ drop claimsOffset s) (words-here .inside)
-        ∙ (λ j. modifyAt (claimsOffset + (claimsRoom + c * words-size j)) (words-size j) (words .write (v .1))
-        (front-three claimsOffset s (omega arith) c (ownerOffset + c) (validOffset + c) (v .0 .0) (toℕ (v .0 .1 .0)) (toℕ (v .0 .1 .1)) (omega arith) (omega arith) (omega arith) j))
-        ∙ ap (λ (k : ℕ). modifyAt k wordsSize (words .write (v .1)) (three v s)) far))
-        toBlock fromBlock (λ k. (cellTokens (getD (k .cells) c noCell), getD (k .cells) c noCell .words)) (λ v. withCellOf c (toCell v))
-        (λ s. λ i. (cellTokens (cell-of s i), cell-of s i .words))
-        (λ v s. λ i. (set-tokens s (toCell v) i, (raw .read s .1 .0, set-words s (toCell v) i)))
-      where
-        z : ℕ
-        z = words .size
-
-        m : ℕ
-        m = claimsRoom + laneSize * z
-
-        far : claimsOffset + (claimsRoom + c * wordsSize) ≡ wordsOffset + wordsSize * c
-        far = omega arith
-
-        three : Tokens × List ℕ → List ℕ → List ℕ
-        three v = withLaneTokens c (v .0)
-
-        same-three : (v : Tokens × List ℕ) (t : List ℕ) → length (three v t) ≡ length t
-        same-three v t = simp length-set
-
 -- ---- a well-formed record
 
 -- bytes that are as the layout has them, of sizes that the layout has room for
@@ -429,6 +389,27 @@ module _ (s : List ℕ) where
           ∙ spread .changes x s stands
           ∙ ap (λ (k : ℕ). modifyAt (blockOffset b) k (writes x) s) (block-size (boardsIn s))
 
+-- ---- the bytes of the messages, and the room behind them
+
+abbrev pub meshBytes : List ℕ → List ℕ
+meshBytes s = slice headerSize (meshRoom * message .size) s
+
+module _ (s : List ℕ) (ok : Formed s) where
+  mesh-here : Place (layoutOf s) (items message meshRoom (messagesIn s)) headerSize (λ v. v .1 .0) (λ x v. (v .0, (x, v .1 .1)))
+  mesh-here = mesh-place (boardsIn s) (blocksIn s) (messagesIn s) (ok .boards) (ok .messages)
+
+  pub mesh-items : get s .mesh ≡ readItems message (messagesIn s) (meshBytes s)
+  unfolding get
+  mesh-items = mesh-here .looks s
+
+  pub mesh-stands : StandItems message (messagesIn s) (meshBytes s)
+  mesh-stands = stand-items message meshRoom (messagesIn s) (meshBytes s) (ok .messages) (mesh-here .stands s (stands s ok))
+
+  -- to write the messages that are there changes nothing
+  pub mesh-unchanged : writeItems message (get s .mesh) (meshBytes s) ≡ meshBytes s
+  mesh-unchanged =
+      ap (λ (l : List Message). writeItems message l (meshBytes s)) mesh-items ∙ items-unchanged message message-lawful (messagesIn s) (meshBytes s) mesh-stands
+
 -- ---- a rack that a record can hold
 
 pub record Fits (r : Rack) : Type 0 where
@@ -500,25 +481,38 @@ module _ (r : Rack) (fits : Fits r) where
         (body-law (r .boards) k (length (r .mesh)) (fits .boards) (fits .messages) .keeps (fromRack r .1) (slice (header .size) (rest .size) s)) room′
         ∙ ap (λ (j : ℕ). drop j s) (sym e)
 
-    -- a second rack of these sizes, with no fewer messages, covers a first
-    pub put-put : (q : Rack) → Fits q → q .boards ≡ r .boards → length (q .blocks) ≡ length (r .blocks) → length (q .mesh) ≤ length (r .mesh) → put r (put q s) ≡ put r s
+    -- a second rack of these sizes covers a first if its messages cover those of the first
+    put-over : (q : Rack) → Fits q → q .boards ≡ r .boards → length (q .blocks) ≡ length (r .blocks)
+        → writeItems message (r .mesh) (writeItems message (q .mesh) (meshBytes s)) ≡ writeItems message (r .mesh) (meshBytes s) → put r (put q s) ≡ put r s
     unfolding put rackLayout
-    put-put q f n b m =
+    put-over q f n b m =
         let k : ℕ = length (r .blocks) in
         let M : Layout (List Message) = items message meshRoom (length (r .mesh)) in
         let K : Layout (List Block) = items (block (r .boards)) k k in
         let u : List ℕ = slice (header .size) (M .size + K .size) s in
         let lu : length u ≡ M .size + K .size = length-part (header .size) (M .size + K .size) s room′ in
-        let mesh-room : length (r .mesh) * message .size ≤ length (take (M .size) u) =
-        le-trans (mul-le-mul-right (message .size) (fits .messages)) (le-of-eq (sym (length-take-le (M .size) u (omega arith)))) in
         let blocks-room : k * block (r .boards) .size ≤ length (slice (M .size) (K .size) u) =
         le-of-eq (sym (length-part (M .size) (K .size) u (le-of-eq (sym lu)))) in
+        let slots : meshBytes s ≡ take (M .size) u =
+        ap (λ (j : ℕ). slice j (M .size) s) (sym header-size) ∙ sym (take-take (M .size) (M .size + K .size) (drop (header .size) s) (omega arith)) in
         let mlaw = mesh-law (r .boards) k (length (r .mesh)) (fits .boards) (fits .messages) in
         let klaw = blocks-law (r .boards) k (length (r .mesh)) (fits .boards) (fits .messages) in
         ap (λ (t : List ℕ). rackLayout (r .boards) k (length (r .mesh)) .write (fromRack r) t) (λ i. rackLayout (n i) (b i) (length (q .mesh)) .write (fromRack q) s)
         ∙ pair-again header (pair M K) header-lawful (pair-lawful M K mlaw klaw) (fromRack r) (fromRack q) s room′
         (header-lawful .again (fromRack r .0) (fromRack q .0) (take (header .size) s) (fitting r fits .0) (fitting q f .0) (le-of-eq (sym (length-take-le (header .size) s (omega (arith, room, header-size))))))
         (pair-again M K mlaw klaw (fromRack r .1) (fromRack q .1) u (le-of-eq (sym lu))
-        (items-again message message-lawful (r .mesh) (q .mesh) (take (M .size) u) (fits .mesh-fits) (f .mesh-fits) m mesh-room)
+        (subst (λ (t : List ℕ). writeItems message (r .mesh) (writeItems message (q .mesh) t) ≡ writeItems message (r .mesh) t) slots m)
         (items-again (block (r .boards)) (block-lawful (r .boards) (fits .boards)) (r .blocks) (q .blocks) (slice (M .size) (K .size) u) (fits .blocks-fit)
         (subst (λ (j : ℕ). All (BlockFits j) (q .blocks)) n (f .blocks-fit)) (le-of-eq b) blocks-room))
+
+    -- so it does with no fewer messages,
+    pub put-put : (q : Rack) → Fits q → q .boards ≡ r .boards → length (q .blocks) ≡ length (r .blocks) → length (q .mesh) ≤ length (r .mesh) → put r (put q s) ≡ put r s
+    put-put q f n b m =
+        put-over q f n b
+        (items-again message message-lawful (r .mesh) (q .mesh) (meshBytes s) (fits .mesh-fits) (f .mesh-fits) m
+        (le-trans (mul-le-mul-right (message .size) (fits .messages)) (le-of-eq (sym (length-part headerSize (meshRoom * message .size) s (rw message-size (omega (arith, room))))))))
+
+    -- and, whatever its messages, if the first has those that stood there
+    pub put-changed : (q : Rack) → Fits q → q .boards ≡ r .boards → length (q .blocks) ≡ length (r .blocks) → Formed s → q .mesh ≡ get s .mesh → put r (put q s) ≡ put r s
+    put-changed q f n b ok e =
+        put-over q f n b (ap (writeItems message (r .mesh)) (ap (λ (l : List Message). writeItems message l (meshBytes s)) e ∙ mesh-unchanged s ok))

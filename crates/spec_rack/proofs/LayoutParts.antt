@@ -1,11 +1,10 @@
 -- The parts of the record obey the laws of layouts: each is made by the algebra, so its laws are those of its parts.
-use Prim.Native.Nat.{ℕ, zero, suc, _+_, _*_, _^_, _≤_, _<_, suc-le-suc}
+use Prim.Native.Nat.{ℕ, suc, _^_, _≤_, _<_, suc-le-suc}
 use native.Mathlib.Nat.{le-refl}
 use native.Mathlib.Omega.{arith}
 use mathlib.Core.Path.{_≡_, refl, sym, ap, _∙_}
-use mathlib.Core.Bool.{Bool}
 use mathlib.Core.List.{List, [], _∷_, map}
-use lib.ListN.{length, getD, set, drop, length-map}
+use lib.ListN.{length, getD, drop, length-map}
 use Rattle.spec_base.specs.Folds.{All, zip}
 use Rattle.spec_base.specs.Layout.{Layout, byte, flag, big, pair, items, room, zeroed, padded, lane, zipped}
 use Rattle.spec_base.proofs.Laws.{Lawful, byte-lawful, flag-lawful, big-lawful, pair-lawful, iso-lawful, items-lawful, Items}
@@ -32,7 +31,7 @@ abbrev pub EndsFit : Endpoints → Type 0
 EndsFit v = (v .0 < 256) × ((v .1 .0 < 256) × (v .1 .1 < 256))
 
 abbrev pub MessageFits : Message → Type 0
-MessageFits m = (EndsFit (m .sender, (m .target, m .block)) × TokensFit (m .plain, (m .owner, m .«data»))) × WordsFit (m .words)
+MessageFits m = (EndsFit (m .header .sender, (m .header .target, m .header .block)) × TokensFit (m .header .plain, (m .header .owner, m .header .«data»))) × WordsFit (m .words)
 
 abbrev pub ClaimsFit : ℕ → Claims → Type 0
 ClaimsFit n k = Items (λ (v : ℕ). v < 256 ^ 2) (suc n) k

@@ -15,13 +15,13 @@ use Rattle.spec_rack.specs.Soundness.{sizes, soundCell, soundMessage, so
 
 pub record SoundMessage (n b : ℕ) (m : Message) : Type 0 where
   pub eight : length (m .words) ≡ 8
-  pub blank : m .«data» ≡ false → all (eqb 0) (m .words) ≡ true
-  pub sender : m .sender ≤ n
-  pub target : m .target ≤ n
-  pub apart : m .sender ≡ m .target → ⊥
-  pub block : m .block < b
+  pub blank : m .header .«data» ≡ false → all (eqb 0) (m .words) ≡ true
+  pub sender : m .header .sender ≤ n
+  pub target : m .header .target ≤ n
+  pub apart : m .header .sender ≡ m .header .target → ⊥
+  pub block : m .header .block < b
   pub token : 0 < carried m
-  pub current : m .owner ≡ true → m .«data» ≡ true
+  pub current : m .header .owner ≡ true → m .header .«data» ≡ true
 
 pub record SoundCell (x : Cell) : Type 0 where
   pub eight : length (x .words) ≡ 8
@@ -49,13 +49,13 @@ message-facts : (n b : ℕ) (m : Message) → soundMessage n b m ≡ true → So
 message-facts n b m h =
     record {
       eight = eqb-true _ _ (search (and-l, and-r) depth 9);
-      blank = λ e. implied (not (m .«data»)) (all (eqb 0) (m .words)) (search (and-l, and-r) depth 9) (not-of-false _ e);
+      blank = λ e. implied (not (m .header .«data»)) (all (eqb 0) (m .words)) (search (and-l, and-r) depth 9) (not-of-false _ e);
       sender = leb-true _ _ (search (and-l, and-r) depth 9);
       target = leb-true _ _ (search (and-l, and-r) depth 9);
       apart = eqb-false _ _ (not-true _ (search (and-l, and-r) depth 9));
       block = ltb-true _ _ (search (and-l, and-r) depth 9);
       token = ltb-true _ _ (search (and-l, and-r) depth 9);
-      current = implied (m .owner) (m .«data») (search (and-l, and-r) depth 9);
+      current = implied (m .header .owner) (m .header .«data») (search (and-l, and-r) depth 9);
     }
 
 message-test : (n b : ℕ) (m : Message) → SoundMessage n b m → soundMessage n b m ≡ true

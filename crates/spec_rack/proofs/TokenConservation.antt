@@ -51,8 +51,8 @@ less-sound x p o s =
 -- ---- what a delivery gives to a cell
 
 module _ (x : Cell) (m : Message) where
-  more-has : (mem : Memory) (b : ℕ) → CellHas mem b x → (m .«data» ≡ true → m .words ≡ getD mem b []) → CellHas mem b (withTokens x m)
-  more-has mem b hx hm = go (x .valid) (m .«data») hx hm
+  more-has : (mem : Memory) (b : ℕ) → CellHas mem b x → (m .header .«data» ≡ true → m .words ≡ getD mem b []) → CellHas mem b (withTokens x m)
+  more-has mem b hx hm = go (x .valid) (m .header .«data») hx hm
     where
       go : (v d : Bool) → (v ≡ true → x .words ≡ getD mem b []) → (d ≡ true → m .words ≡ getD mem b [])
           → (v || d) ≡ true → cond d (m .words) (x .words) ≡ getD mem b []
@@ -63,7 +63,7 @@ module _ (x : Cell) (m : Message) where
   -- at most one of the two has the owner
   module _ (once : cellOwners x + messageOwners m ≤ 1) where
     owners-more : cellOwners (withTokens x m) ≡ cellOwners x + messageOwners m
-    owners-more = go (x .owner) (m .owner) once
+    owners-more = go (x .owner) (m .header .owner) once
       where
         go : (a t : Bool) → toℕ a + toℕ t ≤ 1 → toℕ (a || t) ≡ toℕ a + toℕ t
         go true true h = absurd (omega arith)
@@ -76,9 +76,9 @@ module _ (x : Cell) (m : Message) where
     more-sound : (n b : ℕ) → SoundCell x → SoundMessage n b m → SoundCell (withTokens x m)
     more-sound n b sx sm =
         record {
-          eight = cond-of (λ (ws : List ℕ). length ws ≡ 8) (m .«data») (m .words) (x .words) (sm .eight) (sx .eight);
+          eight = cond-of (λ (ws : List ℕ). length ws ≡ 8) (m .header .«data») (m .words) (x .words) (sm .eight) (sx .eight);
           token = λ v. omega (arith, held-more, sm .token);
-          current = or-keeps (x .owner) (m .owner) (x .valid) (m .«data») (sx .current) (sm .current);
+          current = or-keeps (x .owner) (m .header .owner) (x .valid) (m .header .«data») (sx .current) (sm .current);
         }
 
 -- ---- a figure f of a cell and g of a message that stays as it was in all
@@ -86,9 +86,9 @@ module _ (x : Cell) (m : Message) where
 module _ (r : Rack) (f : Cell → ℕ) (g : Message → ℕ) where
   -- what block j has in a message y
   at : ℕ → Message → ℕ
-  at j y = cond (eqb (y .block) j) (g y) 0
+  at j y = cond (eqb (y .header .block) j) (g y) 0
 
-  sent-balanced : (b c : ℕ) (x : Cell) (m : Message) → m .block ≡ b → f x + g m ≡ f (cellAt r b c)
+  sent-balanced : (b c : ℕ) (x : Cell) (m : Message) → m .header .block ≡ b → f x + g m ≡ f (cellAt r b c)
       → CellBalanced r b c x (r .mesh ++ m ∷ []) f g
   unfolding at
   sent-balanced b c x m e same =
@@ -97,13 +97,13 @@ module _ (r : Rack) (f : Cell → ℕ) (g : Message → ℕ) where
         there = λ j ne. omega (arith, sum-snoc (at j) (r .mesh) m, not-counted g j m (λ q. ne (sym q ∙ e)));
       }
 
-  delivered-balanced : (i c : ℕ) (x : Cell) → i < length (r .mesh) → f x ≡ f (cellAt r (messageAt r i .block) c) + g (messageAt r i)
-      → CellBalanced r (messageAt r i .block) c x (removeAt (r .mesh) i) f g
+  delivered-balanced : (i c : ℕ) (x : Cell) → i < length (r .mesh) → f x ≡ f (cellAt r (messageAt r i .header .block) c) + g (messageAt r i)
+      → CellBalanced r (messageAt r i .header .block) c x (removeAt (r .mesh) i) f g
   unfolding at
   delivered-balanced i c x h same =
       let m = messageAt r i in
       record {
-        here = omega (arith, sum-removed (at (m .block)) (r .mesh) i noMessage h, counted g (m .block) m refl);
+        here = omega (arith, sum-removed (at (m .header .block)) (r .mesh) i noMessage h, counted g (m .header .block) m refl);
         there = λ j ne. omega (arith, sum-removed (at j) (r .mesh) i noMessage h, not-counted g j m (λ q. ne (sym q)));
       }
 
@@ -178,17 +178,17 @@ module _ (r : Rack) (s : Sound r) where
             (delivered-balanced r cellOwners messageOwners i c (withTokens x m) h (owners-more x m once));
         coherent = λ mem coh.
             record { rows = simp length-set (coh .rows); has = moved (CellHas mem) (MessageHas mem) (more-has x m mem b) (coh .has) };
-        fits = moved CellFits MessageFits (λ fx fm. cond-of Fit (m .«data») (m .words) (x .words) fm fx);
+        fits = moved CellFits MessageFits (λ fx fm. cond-of Fit (m .header .«data») (m .words) (x .words) fm fx);
       }
     where
       m : Message
       m = messageAt r i
 
       b : ℕ
-      b = m .block
+      b = m .header .block
 
       c : ℕ
-      c = m .target
+      c = m .header .target
 
       x : Cell
       x = cellAt r b c

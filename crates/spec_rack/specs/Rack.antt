@@ -6,6 +6,7 @@ use lib.ListN.{getD, replicate}
 use lib.Dec.{eqb}
 use Rattle.spec_base.specs.Folds.{toℕ, sum}
 use Rattle.spec_rack.specs.Claims.{Claims, noClaims}
+use Rattle.spec_rack.specs.declared.MessageHeader.{MessageHeader}
 use Rattle.spec_rack.specs.declared.Message.{Message}
 
 -- the most messages that the mesh holds
@@ -51,8 +52,11 @@ noCell = record { plain = 0; owner = false; valid = false; words = zeros }
 abbrev pub noBlock : Block
 noBlock = record { cells = []; claims = [] }
 
+abbrev pub noHeader : MessageHeader
+noHeader = record { sender = 0; target = 0; block = 0; plain = 0; owner = false; «data» = false }
+
 abbrev pub noMessage : Message
-noMessage = record { sender = 0; target = 0; block = 0; plain = 0; owner = false; «data» = false; words = zeros }
+noMessage = record { header = noHeader; words = zeros }
 
 abbrev pub blockAt : Rack → ℕ → Block
 blockAt r b = getD (r .blocks) b noBlock
@@ -84,11 +88,11 @@ abbrev pub held : Cell → ℕ
 held x = x .plain + owners (x .owner)
 
 abbrev pub carried : Message → ℕ
-carried m = m .plain + owners (m .owner)
+carried m = m .header .plain + owners (m .header .owner)
 
 -- a figure of the messages of block b, added up
 abbrev pub inFlight : (Message → ℕ) → ℕ → List Message → ℕ
-inFlight g b ms = sum (λ m. cond (eqb (m .block) b) (g m) 0) ms
+inFlight g b ms = sum (λ m. cond (eqb (m .header .block) b) (g m) 0) ms
 
 -- a figure f of the cells and g of the messages of block b, added up
 abbrev pub total : (Cell → ℕ) → (Message → ℕ) → Rack → ℕ → ℕ
@@ -98,4 +102,4 @@ abbrev pub tokensOf : Rack → ℕ → ℕ
 tokensOf r b = total held carried r b
 
 abbrev pub ownersOf : Rack → ℕ → ℕ
-ownersOf r b = total (λ x. owners (x .owner)) (λ m. owners (m .owner)) r b
+ownersOf r b = total (λ x. owners (x .owner)) (λ m. owners (m .header .owner)) r b

@@ -173,7 +173,7 @@ cell p o v w = record { plain = p; owner = o; valid = v; words = first w }
 
 -- a message of block b from c to t
 abbrev pub mail : ℕ → ℕ → ℕ → ℕ → Bool → Bool → ℕ → Message
-mail c t b p o d w = record { sender = c; target = t; block = b; plain = p; owner = o; «data» = d; words = first w }
+mail c t b p o d w = record { header = record { sender = c; target = t; block = b; plain = p; owner = o; «data» = d }; words = first w }
 
 -- a rack of 2 boards and one block with 3 tokens
 abbrev pub small : List Cell → Claims → List Message → Rack
@@ -209,7 +209,7 @@ pub record Effects : Type 0 where
   pub send-accepted : met stored (Send 1 0 2 1 false true ∷ Send 1 0 2 0 true true ∷ Send 1 0 0 2 true true ∷ []) ≡ 0 ∷ 0 ∷ 0 ∷ []
   -- deliver: position 0 is the oldest; the rest keep their order
   pub deliver-position :
-      map (λ i. map (λ m. m .plain) (run (fresh 2 1 8) (sendPlain 0 1 1 ∷ sendPlain 0 2 2 ∷ sendPlain 0 1 3 ∷ Deliver i ∷ []) .mesh)) (0 ∷ 1 ∷ 2 ∷ 3 ∷ [])
+      map (λ i. map (λ m. m .header .plain) (run (fresh 2 1 8) (sendPlain 0 1 1 ∷ sendPlain 0 2 2 ∷ sendPlain 0 1 3 ∷ Deliver i ∷ []) .mesh)) (0 ∷ 1 ∷ 2 ∷ 3 ∷ [])
       ≡ (2 ∷ 3 ∷ []) ∷ (1 ∷ 3 ∷ []) ∷ (1 ∷ 2 ∷ []) ∷ (1 ∷ 2 ∷ 3 ∷ []) ∷ []
   -- with data, also a valid target takes the message's words; its tokens are added
   pub deliver-data : cellAt (run meeting (Deliver 0 ∷ [])) 0 1 ≡ cell 1 true true 5

@@ -51,7 +51,10 @@ withoutTokens x p o =
 -- and appends the message, with the component's words if data is yes
 abbrev pub message : Cell → ℕ → ℕ → ℕ → ℕ → Bool → Bool → Message
 message x c b t p o d =
-    record { sender = c; target = t; block = b; plain = p; owner = o; «data» = d; words = cond d (x .words) zeros }
+    record {
+      header = record { sender = c; target = t; block = b; plain = p; owner = o; «data» = d };
+      words = cond d (x .words) zeros;
+    }
 
 unfoldable pub sent : Rack → ℕ → ℕ → ℕ → ℕ → Bool → Bool → Rack
 sent r c b t p o d =
@@ -62,17 +65,19 @@ sent r c b t p o d =
 abbrev pub withTokens : Cell → Message → Cell
 withTokens x m =
     record {
-      plain = x .plain + m .plain;
-      owner = x .owner || m .owner;
-      valid = x .valid || m .«data»;
-      words = cond (m .«data») (m .words) (x .words);
+      plain = x .plain + m .header .plain;
+      owner = x .owner || m .header .owner;
+      valid = x .valid || m .header .«data»;
+      words = cond (m .header .«data») (m .words) (x .words);
     }
 
 -- removes that message, the rest keeping their order
 unfoldable pub delivered : Rack → ℕ → Rack
 delivered r i =
     let m = messageAt r i in
-    withCell r (m .block) (m .target) (withTokens (cellAt r (m .block) (m .target)) m) (removeAt (r .mesh) i)
+    let b = m .header .block in
+    let c = m .header .target in
+    withCell r b c (withTokens (cellAt r b c) m) (removeAt (r .mesh) i)
 
 -- forward: a send of all held tokens to the active board, data exactly if valid
 unfoldable pub forwarded : Rack → ℕ → ℕ → Rack

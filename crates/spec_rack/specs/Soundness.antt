@@ -3,7 +3,7 @@
 use Prim.Native.Nat.{ℕ, suc}
 use mathlib.Core.Bool.{Bool, not, _&&_}
 use mathlib.Core.List.{List}
-use lib.ListN.{length, getD}
+use lib.ListN.{length}
 use lib.Dec.{eqb, leb, ltb}
 use Rattle.spec_base.specs.Folds.{all, allBelow, implies}
 use Rattle.spec_rack.specs.Claims.{soundClaims}
@@ -21,13 +21,14 @@ eightWords ws = eqb (length ws) 8
 -- of a rack of n boards and b blocks
 abbrev pub soundMessage : ℕ → ℕ → Message → Bool
 soundMessage n b m =
+    let h = m .header in
     eightWords (m .words)
-    && implies (not (m .«data»)) (all (eqb 0) (m .words))  -- words all 0 if it has no data
-    && leb (m .sender) n  -- a known sender,
-    && leb (m .target) n && not (eqb (m .sender) (m .target))  -- a known and different target,
-    && ltb (m .block) b  -- a known block
+    && implies (not (h .«data»)) (all (eqb 0) (m .words))  -- words all 0 if it has no data
+    && leb (h .sender) n  -- a known sender,
+    && leb (h .target) n && not (eqb (h .sender) (h .target))  -- a known and different target,
+    && ltb (h .block) b  -- a known block
     && ltb 0 (carried m)  -- and at least one token,
-    && implies (m .owner) (m .«data»)  -- and data if it has the owner
+    && implies (h .owner) (h .«data»)  -- and data if it has the owner
 
 abbrev pub soundCell : Cell → Bool
 soundCell x =

@@ -27,13 +27,18 @@ pub enum Lettered {
     Refused(Refusal),
 }
 
-pub struct Message {
+// What stands in front of a message's words: its ends, its block, its tokens, and whether the words are data.
+pub struct MessageHeader {
     pub sender: u8,
     pub target: u8,
     pub block: u8,
     pub plain: u8,
     pub owner: bool,
     pub data: bool,
+}
+
+pub struct Message {
+    pub header: MessageHeader,
     pub words: [u32; 8],
 }
 

@@ -4,6 +4,7 @@ use mathlib.Core.Bool.{Bool, not, _&&_, _||_}
 use Prim.Native.Nat.{ℕ, _+_, _-_}
 use lib.Dec.{ltb}
 use Rattle.spec_base.specs.Folds.{toℕ}
+use Rattle.spec_rack.specs.declared.MessageHeader.{MessageHeader}
 use Rattle.spec_rack.specs.declared.Message.{Message}
 use Rattle.spec_rack.specs.Rack.{Cell}
 use Rattle.spec_rack.specs.Rules.{withoutTokens, withTokens}
@@ -22,11 +23,11 @@ module _ (state : TokenState) (x : Cell) (told : TokenStateOf x state) where
             ∙ (λ i. told .valid i && ltb 0 (told .plain i - p + toℕ (told .owner i && not o)));
       }
 
-  pub more-is : (m : Message) (owner valid : Bool) → owner ≡ (state .owner || m .owner) → valid ≡ (state .valid || m .«data»)
-      → TokenStateOf (withTokens x m) (record { plain = state .plain + m .plain; owner = owner; valid = valid })
-  more-is m owner valid eo ev =
+  pub more-is : (h : MessageHeader) (m : Message) → h ≡ m .header → (owner valid : Bool) → owner ≡ (state .owner || h .owner) → valid ≡ (state .valid || h .«data»)
+      → TokenStateOf (withTokens x m) (record { plain = state .plain + h .plain; owner = owner; valid = valid })
+  more-is h m e owner valid eo ev =
       record {
-        plain = ap (λ (n : ℕ). n + m .plain) (told .plain);
-        owner = eo ∙ ap (λ (y : Bool). y || m .owner) (told .owner);
-        valid = ev ∙ ap (λ (y : Bool). y || m .«data») (told .valid);
+        plain = λ i. told .plain i + e i .plain;
+        owner = eo ∙ (λ i. told .owner i || e i .owner);
+        valid = ev ∙ (λ i. told .valid i || e i .«data»);
       }

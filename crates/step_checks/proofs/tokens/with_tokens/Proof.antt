@@ -14,7 +14,7 @@ either-requires-2 : tie.Need-either-requires-2
 either-requires-2 c κs = search needs
 
 returns : tie.Need-returns
-returns c = λ x told. more-is (c .before .before .before .before .args .state) x told (c .before .before .before .before .args .m) (c .before .either .result) (c .either2 .result) (c .before .either .ensures) (c .either2 .ensures)
+returns c = λ x m told e. more-is (c .before .before .before .before .args .state) x told (c .before .before .before .before .args .header) m e (c .before .either .result) (c .either2 .result) (c .before .either .ensures) (c .either2 .ensures)
 
 pub with-tokens-spec : {M : Type 1} → statement M
 with-tokens-spec = tie.close (tie.spec add-t3 either-requires either-requires-2 returns)

@@ -1,0 +1,2 @@
+pub mod ByteCopies
+pub mod WordCopies

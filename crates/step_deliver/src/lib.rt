@@ -1,0 +1,53 @@
+// Deliver: tokens from the mesh into a cell. Its line of the refusal table, and the change where it passes.
+ghost use mathlib.Core.Path.{_≡_};
+ghost use Rattle.spec_wire.specs.declared.Check.the-variants.{Pass};
+ghost use Rattle.spec_rack.specs.Rules.{check, after};
+ghost use Rattle.spec_rack.specs.RecordLayout.{get, put};
+ghost use Rattle.record.specs.Needs.{SoundRecord};
+ghost use Rattle.spec_rack.specs.Entries.{replyToStep, bufferAfter};
+ghost use Rattle.step_deliver.specs.Filling.{CanFill, filled};
+use spec_rack::Answer;
+use spec_rack::MESSAGE_COUNT_OFFSET;
+use spec_rack::MessageHeader;
+use spec_rack::Reply;
+use spec_wire::Refusal;
+use spec_wire::Step;
+
+// Gives the target what the message at a position brings: its words where it has data, and its tokens.
+fn fill_target(rec: &mut [u8], position: u8, header: MessageHeader)
+    requires { ⌜ CanFill (now rec) position header ⌝ }
+    ensures { λ r. ⌜ now (rec .exit) ≡ put (filled (get (now (rec .entry))) position) (now (rec .entry)) ⌝ }
+{
+    let block = header.block;
+    let target = header.target;
+    if header.data {
+        record_mesh::copy_words(rec, position, block, target);
+    }
+    let state = step_checks::tokens::with_tokens(
+        record::cells::token_state(rec, block, target),
+        header,
+    );
+    record::cells::set_token_state(rec, block, target, state);
+}
+
+// Fills the target, then takes the message out of the mesh: the removal moves other messages over its words.
+fn deliver_message(rec: &mut [u8], position: u8)
+    requires { ⌜ SoundRecord (now rec) × (check (get (now rec)) (Step.Deliver position) ≡ Pass) ⌝ }
+    ensures { λ r. ⌜ now (rec .exit) ≡ put (after (get (now (rec .entry))) (Step.Deliver position)) (now (rec .entry)) ⌝ }
+{
+    let header = record_mesh::header_at(rec, position);
+    fill_target(rec, position, header);
+    record_mesh::remove(rec, position);
+}
+
+pub fn deliver(rec: &mut [u8], position: u8) -> Reply
+    requires { ⌜ SoundRecord (now rec) ⌝ }
+    ensures reply { λ r. ⌜ r ≡ replyToStep (now (rec .entry)) (Step.Deliver position) ⌝ }
+    ensures buffer { λ r. ⌜ now (rec .exit) ≡ bufferAfter (now (rec .entry)) (Step.Deliver position) ⌝ }
+{
+    if rec[MESSAGE_COUNT_OFFSET] <= position {
+        return Reply::Refused(Refusal::NoMessage);
+    }
+    deliver_message(rec, position);
+    Reply::Accepted(Answer::Done)
+}

@@ -1,0 +1,2 @@
+pub mod SendTable
+pub mod SentTokens

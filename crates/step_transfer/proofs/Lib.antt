@@ -1,3 +1,0 @@
-pub mod SendTable
-pub mod SentTokens
-pub mod DeliveredMessage
