@@ -1,4 +1,7 @@
-//! What a comparison reached: for each call and kind of step, how often it was accepted and met each refusal.
+//! What a comparison reached: for each call and kind of step, how often it was accepted and met each refusal; which messages were delivered from
+//! a filled mesh.
+
+use crate::model::{Rack, MESH_LIMIT};
 
 pub const KINDS: [&str; 12] =
     ["load", "store", "send", "deliver", "raise", "lower", "forward", "other bytes", "opening", "letter", "reading", "writing"];
@@ -24,6 +27,25 @@ const REFUSALS: [&[usize]; 12] = [
     &[1, 20],
 ];
 
+/// Where a delivered message stood. Behind the first and those of the middle others stand, which move up; behind the last and the only one none.
+const POSITIONS: [&str; 4] = ["only", "first", "middle", "last"];
+const MIDDLE: usize = 2;
+
+/// What it brought: with the words that the target has already, a copy that was left out would not be seen.
+const BROUGHT: [&str; 3] = ["no data", "the target's words", "other words"];
+
+/// Deliveries from a filled mesh.
+#[derive(Default)]
+struct Delivered {
+    counts: [[u64; BROUGHT.len()]; POSITIONS.len()],
+    /// The messages in flight at each, added up.
+    in_flight: u64,
+    /// Those of the middle, with words that neither neighbour has: words from another slot would be seen.
+    apart: u64,
+    /// The most in flight at a delivery of the middle with other words.
+    most: usize,
+}
+
 #[derive(Default)]
 pub struct Coverage {
     counts: [[u64; 21]; KINDS.len()],
@@ -36,6 +58,7 @@ pub struct Coverage {
     pub runs: u64,
     pub run_steps: u64,
     pub letters: u64,
+    delivered: Delivered,
 }
 
 /// The kind of a step's bytes, by their first byte.
@@ -52,6 +75,27 @@ impl Coverage {
         self.counts[kind][place] += 1;
     }
 
+    /// Counts a delivery before it is made.
+    pub fn delivery(&mut self, rack: &Rack, position: u8) {
+        let (at, count) = (usize::from(position), rack.mesh.len());
+        let Some(message) = rack.mesh.get(at) else { return };
+        let class = match at {
+            0 if count == 1 => 0,
+            0 => 1,
+            _ if at + 1 < count => MIDDLE,
+            _ => 3,
+        };
+        let cell = &rack.blocks[usize::from(message.block)].cells[usize::from(message.target)];
+        let brought = if message.data { 1 + usize::from(message.words != cell.words) } else { 0 };
+        let delivered = &mut self.delivered;
+        delivered.counts[class][brought] += 1;
+        delivered.in_flight += count as u64;
+        if class == MIDDLE && brought == 2 {
+            delivered.apart += u64::from([at - 1, at + 1].iter().all(|&beside| rack.mesh[beside].words != message.words));
+            delivered.most = delivered.most.max(count);
+        }
+    }
+
     /// Adds what another part of the comparison reached.
     pub fn add(&mut self, other: &Coverage) {
         for (mine, theirs) in self.counts.iter_mut().flatten().zip(other.counts.iter().flatten()) {
@@ -66,6 +110,12 @@ impl Coverage {
         self.runs += other.runs;
         self.run_steps += other.run_steps;
         self.letters += other.letters;
+        for (mine, theirs) in self.delivered.counts.iter_mut().flatten().zip(other.delivered.counts.iter().flatten()) {
+            *mine += theirs;
+        }
+        self.delivered.in_flight += other.delivered.in_flight;
+        self.delivered.apart += other.delivered.apart;
+        self.delivered.most = self.delivered.most.max(other.delivered.most);
     }
 
     pub fn print(&self) {
@@ -73,6 +123,7 @@ impl Coverage {
         println!("{} loads answered as the flat memory does; {} state letters", self.flat_loads, self.letters);
         println!("{} damaged records, {} of them sound", self.damaged, self.damaged_sound);
         println!("{} runs of {} steps", self.runs, self.run_steps);
+        self.delivered.print();
         for (kind, counts) in KINDS.iter().zip(&self.counts) {
             let refused: Vec<String> =
                 counts.iter().enumerate().skip(1).filter(|(_, &n)| n > 0).map(|(number, n)| format!("r{number} {n}")).collect();
@@ -80,9 +131,9 @@ impl Coverage {
         }
     }
 
-    /// What a kind can meet and never met, and what it met and cannot.
+    /// What a kind can meet and never met, and what it met and cannot; what was never delivered.
     pub fn gaps(&self) -> Vec<String> {
-        let mut gaps = Vec::new();
+        let mut gaps = self.delivered.gaps();
         for ((kind, counts), refusals) in KINDS.iter().zip(&self.counts).zip(REFUSALS) {
             if counts[0] == 0 && *kind != KINDS[OTHER] {
                 gaps.push(format!("{kind} was never accepted"));
@@ -95,6 +146,40 @@ impl Coverage {
                     gaps.push(format!("{kind} met {number}, which does not name it"));
                 }
             }
+        }
+        gaps
+    }
+}
+
+impl Delivered {
+    fn count(&self) -> u64 {
+        self.counts.iter().flatten().sum()
+    }
+
+    fn print(&self) {
+        println!("{} deliveries from a filled mesh, {} in flight on average", self.count(), self.in_flight / self.count().max(1));
+        for (class, counts) in POSITIONS.iter().zip(&self.counts) {
+            let brought: Vec<String> = BROUGHT.iter().zip(counts).map(|(what, n)| format!("{what} {n}")).collect();
+            println!("{class:>12}: {}", brought.join(", "));
+        }
+        println!("{:>12}  {} of the middle with words that neither neighbour has", "", self.apart);
+    }
+
+    /// A position and what was brought from it that never came together; too few from the middle, or never from the middle of a full mesh.
+    fn gaps(&self) -> Vec<String> {
+        let mut gaps = Vec::new();
+        for (class, counts) in POSITIONS.iter().zip(&self.counts) {
+            let missing = BROUGHT.iter().zip(counts).filter(|(_, &count)| count == 0);
+            gaps.extend(missing.map(|(brought, _)| format!("no delivery of {brought}, {class}")));
+        }
+        if 2 * self.counts[MIDDLE].iter().sum::<u64>() <= self.count() {
+            gaps.push("most deliveries are not from the middle".into());
+        }
+        if self.apart == 0 {
+            gaps.push("no delivery of the middle with words that neither neighbour has".into());
+        }
+        if self.most != MESH_LIMIT {
+            gaps.push(format!("no delivery of the middle with {MESH_LIMIT} in flight"));
         }
         gaps
     }

@@ -4,6 +4,7 @@ pub mod best;
 pub mod blind;
 pub mod calls;
 pub mod coverage;
+pub mod deliveries;
 pub mod engine;
 pub mod examples;
 pub mod layout;

@@ -1,5 +1,6 @@
-//! Compares the proved engine, and the two engines of the benchmark, `tuned` and `best`, with the model: call by call, over lists, openings, torn
-//! steps, short buffers, damaged records, runs, and the reader and writer. It stops at the first difference with a case that `--replay` takes.
+//! Compares the proved engine, and the two engines of the benchmark, `tuned` and `best`, with the model: call by call, over lists, deliveries from
+//! a filled mesh, openings, torn steps, short buffers, damaged records, runs, and the reader and writer. It stops at the first difference with a
+//! case that `--replay` takes.
 
 mod compare;
 
@@ -50,7 +51,7 @@ fn run(seed: u64, stages: &[Stage]) -> Result<Coverage, String> {
 fn compare(options: &Options) -> Result<(), String> {
     let &Options { seed, steps, .. } = options;
     let long = steps >= 2_000_000;
-    let lists: [Stage; 1] = [("lists", &|harness| harness.lists(steps))];
+    let lists: [Stage; 2] = [("lists", &|harness| harness.lists(steps)), ("deliveries", &|harness| harness.deliveries(steps / 20))];
     let rest: [Stage; 9] = [
         ("examples", &Harness::examples),
         ("lengths", &Harness::lengths),

@@ -1,7 +1,7 @@
 //! Lists from an opening on.
 
 use super::{filled, Harness, Sizes, RACKS, SPARE};
-use second::calls::{byte_difference, hex, ENGINES, LAYOUTS, RECORD};
+use second::calls::{byte_difference, hex, Layout, ENGINES, LAYOUTS, RECORD};
 use second::coverage::{kind_of, Coverage, LETTER};
 use second::lists::Lists;
 use second::model::{self, Answer, FlatMemory, Rack, Step};
@@ -43,10 +43,10 @@ impl Harness {
 const LETTERS: u32 = 12;
 
 /// A list in progress.
-struct List {
+pub(super) struct List {
     seed: u64,
     sizes: Sizes,
-    rack: Rack,
+    pub(super) rack: Rack,
     /// The rack of the program that was written from document 01 alone.
     blind: blind::Rack,
     flat: FlatMemory,
@@ -54,14 +54,20 @@ struct List {
     want: Vec<Vec<u8>>,
     buffers: Vec<Vec<u8>>,
     made: Vec<Vec<u8>>,
+    replies: Vec<u64>,
     /// Which letter is next in turn.
     letter: u32,
 }
 
+/// A buffer as it is lent for an opening: each byte of a pattern, some behind the record.
+fn lent(seed: u64, layout: &Layout, blocks: u32) -> Vec<u8> {
+    filled(seed, (layout.length)(blocks as usize) + SPARE)
+}
+
 impl List {
-    fn open(seed: u64, sizes: Sizes) -> Result<List, String> {
+    pub(super) fn open(seed: u64, sizes: Sizes) -> Result<List, String> {
         let (boards, blocks, tokens) = sizes;
-        let want: Vec<Vec<u8>> = LAYOUTS.iter().map(|layout| filled(seed, (layout.length)(blocks as usize) + SPARE)).collect();
+        let want: Vec<Vec<u8>> = LAYOUTS.iter().map(|layout| lent(seed, layout, blocks)).collect();
         let rack = Rack::open(boards, blocks, tokens).expect("sizes in range");
         let blind = blind::Rack::open(boards, blocks, tokens).map_err(|number| format!("blind: refused {number} at {sizes:?}"))?;
         let mut list = List {
@@ -73,6 +79,7 @@ impl List {
             buffers: ENGINES.iter().map(|engine| want[engine.layout].clone()).collect(),
             want,
             made: Vec::new(),
+            replies: Vec::new(),
             letter: 0,
         };
         list.encode();
@@ -83,7 +90,7 @@ impl List {
         Ok(list)
     }
 
-    fn step(&mut self, bytes: Vec<u8>, coverage: &mut Coverage) -> Result<u64, String> {
+    pub(super) fn step(&mut self, bytes: Vec<u8>, coverage: &mut Coverage) -> Result<u64, String> {
         let read = model::read(&bytes);
         let block = read.ok().and_then(|step| self.block_of(step));
         self.made.push(bytes);
@@ -105,9 +112,26 @@ impl List {
         if let (Ok(step), Ok(answer)) = (read, reply) {
             self.demand(step, answer, coverage)?;
         }
+        self.replies.push(want);
         coverage.most_in_flight = coverage.most_in_flight.max(self.rack.mesh.len());
         self.letters(block.filter(|_| reply.is_ok()), coverage)?;
         Ok(want)
+    }
+
+    /// The steps so far, in one run on a record that is opened anew, give the same replies and bytes.
+    pub(super) fn in_one_run(&self) -> Result<(), String> {
+        let (boards, blocks, tokens) = self.sizes;
+        let list = self.made.concat();
+        for (engine, single) in ENGINES.iter().zip(&self.buffers) {
+            let mut buffer = lent(self.seed, &LAYOUTS[engine.layout], blocks);
+            let mut replies = vec![0; self.made.len()];
+            (engine.open)(&mut buffer, boards, blocks, tokens);
+            let count = (engine.run)(&mut buffer, &list, &mut 0, &mut replies);
+            if count != replies.len() || replies != self.replies || buffer != *single {
+                return Err(self.case(&format!("{}: a run is not as its single steps", engine.name)));
+            }
+        }
+        Ok(())
     }
 
     fn encode(&mut self) {

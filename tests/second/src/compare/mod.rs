@@ -8,6 +8,7 @@ use second::record;
 use second::rng::Rng;
 
 mod damage;
+mod deliveries;
 mod examples;
 mod lists;
 mod openings;

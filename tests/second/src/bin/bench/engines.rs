@@ -29,12 +29,27 @@ fn layout_of(length: u64) -> &'static Layout {
     LAYOUTS.iter().find(|layout| (layout.length)(1) as u64 == length).expect("a layout that is known here")
 }
 
-/// The records of a row in the bytes of a layout, before the first step.
-pub fn records(row: &Row, layout: &Layout) -> Vec<Vec<u8>> {
-    let encoded = |rack: &second::model::Rack| {
-        let mut bytes = vec![0; (layout.length)(rack.blocks.len())];
-        (layout.encode)(rack, &mut bytes);
-        bytes
-    };
-    row.works.iter().map(|work| encoded(&work.rack)).collect()
+/// Records as they are before the first step, and those that the steps change.
+pub struct Records {
+    fresh: Vec<Vec<u8>>,
+    pub used: Vec<Vec<u8>>,
+}
+
+impl Records {
+    /// The records of a row in the bytes of a layout.
+    pub fn new(row: &Row, layout: &Layout) -> Records {
+        let encoded = |rack: &second::model::Rack| {
+            let mut bytes = vec![0; (layout.length)(rack.blocks.len())];
+            (layout.encode)(rack, &mut bytes);
+            bytes
+        };
+        let fresh: Vec<Vec<u8>> = row.works.iter().map(|work| encoded(&work.rack)).collect();
+        Records { used: fresh.clone(), fresh }
+    }
+
+    pub fn renew(&mut self) {
+        for (used, fresh) in self.used.iter_mut().zip(&self.fresh) {
+            used.copy_from_slice(fresh);
+        }
+    }
 }

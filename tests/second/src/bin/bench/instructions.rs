@@ -2,7 +2,7 @@
 //!
 //! The program asks valgrind to count during a pass and to write the count to a file, which it then reads.
 
-use crate::engines::{self, Engine};
+use crate::engines::{self, Engine, Records};
 use crate::rows::{self, Row};
 use crate::Call;
 use std::arch::asm;
@@ -14,6 +14,7 @@ const STEPS: usize = 4000;
 /// Requests of callgrind: the base is the letters C and T.
 const DUMP: u64 = 0x4354_0000;
 const ZERO: u64 = DUMP + 1;
+const TOGGLE: u64 = DUMP + 2;
 const START: u64 = DUMP + 4;
 const STOP: u64 = DUMP + 5;
 
@@ -27,6 +28,13 @@ fn ask(request: u64) {
             in("rax") words.as_ptr(), inout("rdx") 0u64 => _, options(nostack),
         );
     }
+}
+
+/// What is done meanwhile is not counted.
+fn uncounted(work: impl FnOnce()) {
+    ask(TOGGLE);
+    work();
+    ask(TOGGLE);
 }
 
 struct Counter {
@@ -51,21 +59,27 @@ impl Counter {
 
 /// Instructions a step.
 fn measure(counter: &mut Counter, row: &Row, call: Call, engine: &Engine) -> Result<f64, String> {
-    let mut records = engines::records(row, engine.layout);
+    let mut records = Records::new(row, engine.layout);
     let (order, runs) = (row.order(STEPS), row.runs());
     let mut replies = vec![0; order.len()];
     let total = counter.count(|| match call {
         Call::Step => {
-            for ((number, bytes), reply) in order.iter().zip(&mut replies) {
-                *reply = (engine.step)(black_box(&mut records[*number]), black_box(bytes));
+            for (part, replies) in order.chunks(row.steps_of_part()).zip(replies.chunks_mut(row.steps_of_part())) {
+                uncounted(|| records.renew());
+                for ((number, bytes), reply) in part.iter().zip(replies) {
+                    *reply = (engine.step)(black_box(&mut records.used[*number]), black_box(bytes));
+                }
             }
         }
         Call::Run => {
             let mut steps = 0;
-            for &(number, mut at, count) in &runs {
-                let places = &mut replies[steps..steps + count];
-                (engine.run)(black_box(&mut records[number]), black_box(&row.works[number].list), &mut at, places);
-                steps += count;
+            for part in runs.chunks(row.runs_of_part()) {
+                uncounted(|| records.renew());
+                for &(number, mut at, count) in part {
+                    let places = &mut replies[steps..steps + count];
+                    (engine.run)(black_box(&mut records.used[number]), black_box(&row.works[number].list), &mut at, places);
+                    steps += count;
+                }
             }
         }
     })?;

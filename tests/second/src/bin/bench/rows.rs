@@ -1,7 +1,8 @@
-//! The rows of the benchmark: racks in some state, with seeded lists that keep them in such a state.
+//! The rows of the benchmark: racks in some state, with seeded lists that keep them in such a state; and deliveries alone.
 
 use second::lists::{Lists, Mood};
-use second::model::{self, Rack, Step, HOME, MESH_LIMIT};
+use second::model::{self, Rack, Step, HOME, MESH_LIMIT, WORDS};
+use second::rng::Rng;
 use std::ops::Range;
 
 type Sizes = (u32, u32, u32);
@@ -11,6 +12,8 @@ const WARM_UP: usize = 40_000;
 /// So many records of the largest rack do not fit into a core's own caches. Each gets so many steps in a run before the next one's turn.
 const MANY: usize = 400;
 const TURN: usize = 10;
+/// The most steps of a row of deliveries, where much time goes into what is not measured.
+const DELIVERIES: usize = 16_384;
 
 /// A rack, and the list that it is given.
 pub struct Work {
@@ -19,12 +22,26 @@ pub struct Work {
     pub cuts: Vec<Range<usize>>,
 }
 
+impl Work {
+    fn new(rack: Rack) -> Work {
+        Work { rack, list: Vec::new(), cuts: Vec::new() }
+    }
+
+    fn push(&mut self, step: Step) {
+        let at = self.list.len();
+        self.list.extend(model::write(step));
+        self.cuts.push(at..self.list.len());
+    }
+}
+
 pub struct Row {
     pub name: &'static str,
     pub sizes: Sizes,
     /// They are served in turn: one step at a time by `hyl_step`, `turn` steps by `hyl_run`.
     pub works: Vec<Work>,
     pub turn: usize,
+    /// Whether the records are as at first again before each turn.
+    pub renewed: bool,
     pub accepted: usize,
     pub in_flight: f64,
     /// Valid copies of a block.
@@ -50,13 +67,47 @@ pub fn all(steps: usize) -> Vec<Row> {
     }
     rows.push(row("copies at all boards", (15, 32, 64), State::Copies, 1, steps));
     rows.push(row("400 records in turn", (15, 32, 64), State::Few, MANY, steps));
+    rows.push(deliveries("deliver with data", (2, 1, 3), 128, 1, 1, steps));
+    rows.push(deliveries("deliver with data", (15, 32, 64), 32, 1, 1, steps));
+    rows.push(deliveries("deliver with data", (15, 32, 64), 32, MESH_LIMIT, 1, steps));
+    rows.push(deliveries("deliver all, with data", (15, 32, 64), 32, MESH_LIMIT, MESH_LIMIT, steps));
     rows
 }
 
 impl Row {
+    fn new(name: &'static str, sizes: Sizes, turn: usize) -> Row {
+        Row { name, sizes, works: Vec::new(), turn, renewed: false, accepted: 0, in_flight: 0.0, copies: 0.0, barred: 0.0 }
+    }
+
+    /// Counts the valid copies of each block, and whether a board is barred in it.
+    fn look(&mut self, rack: &Rack) {
+        for block in &rack.blocks {
+            self.copies += block.cells.iter().filter(|cell| cell.valid).count() as f64;
+            self.barred += 100.0 * f64::from(block.barring.values().any(|set| !set.is_empty()));
+        }
+    }
+
     /// How many steps it has in all.
     pub fn steps(&self) -> usize {
         self.works.iter().map(|work| work.cuts.len()).sum()
+    }
+
+    /// How many single steps are given before the records are renewed.
+    pub fn steps_of_part(&self) -> usize {
+        if self.renewed {
+            self.turn * self.works.len()
+        } else {
+            usize::MAX
+        }
+    }
+
+    /// How many runs are made before the records are renewed.
+    pub fn runs_of_part(&self) -> usize {
+        if self.renewed {
+            self.works.len()
+        } else {
+            usize::MAX
+        }
     }
 
     /// The runs in the order in which they are made: the record's number, where in its list the run starts, and how many steps it has.
@@ -87,7 +138,7 @@ fn row(name: &'static str, sizes: Sizes, state: State, records: usize, steps: us
         let _ = rack.step(step);
     }
     let turn = if records > 1 { TURN } else { steps };
-    let mut row = Row { name, sizes, works: Vec::new(), turn, accepted: 0, in_flight: 0.0, copies: 0.0, barred: 0.0 };
+    let mut row = Row::new(name, sizes, turn);
     let mut looks = 0;
     for _ in 0..records {
         // Records that stand beside each other are not alike.
@@ -95,22 +146,17 @@ fn row(name: &'static str, sizes: Sizes, state: State, records: usize, steps: us
             let step = next(&mut lists, &rack, state);
             let _ = rack.step(step);
         }
-        let mut work = Work { rack: rack.clone(), list: Vec::new(), cuts: Vec::new() };
+        let mut work = Work::new(rack.clone());
         while work.cuts.len() < steps / records {
             let step = next(&mut lists, &rack, state);
             let fits = rack.step(step).is_ok();
             if work.cuts.len().is_multiple_of(50) {
                 looks += rack.blocks.len();
-                for block in &rack.blocks {
-                    row.copies += block.cells.iter().filter(|cell| cell.valid).count() as f64;
-                    row.barred += 100.0 * f64::from(block.barring.values().any(|set| !set.is_empty()));
-                }
+                row.look(&rack);
             }
             // Most steps of a policy fit.
             if fits || lists.rng.percent(20) {
-                let at = work.list.len();
-                work.list.extend(model::write(step));
-                work.cuts.push(at..work.list.len());
+                work.push(step);
                 row.accepted += usize::from(fits);
                 row.in_flight += rack.mesh.len() as f64;
             }
@@ -121,6 +167,53 @@ fn row(name: &'static str, sizes: Sizes, state: State, records: usize, steps: us
     row.copies /= looks as f64;
     row.barred /= looks as f64;
     row
+}
+
+/// Deliveries alone. Each record has so many messages with data in flight; a turn delivers `turn` of them, each at any position.
+fn deliveries(name: &'static str, sizes: Sizes, records: usize, in_flight: usize, turn: usize, steps: usize) -> Row {
+    let mut rng = Rng::new(in_flight as u64);
+    let mut row = Row { renewed: true, ..Row::new(name, sizes, turn) };
+    for _ in 0..records {
+        let mut work = Work::new(carrying(&mut rng, sizes, in_flight));
+        row.look(&work.rack);
+        for _ in 0..steps.min(DELIVERIES) / records / turn {
+            let mut rack = work.rack.clone();
+            for _ in 0..turn {
+                let step = Step::Deliver { position: rng.below(rack.mesh.len()) as u8 };
+                row.in_flight += rack.mesh.len() as f64;
+                rack.step(step).expect("a message is there");
+                work.push(step);
+            }
+        }
+        row.works.push(work);
+    }
+    let looks = records * row.works[0].rack.blocks.len();
+    row.accepted = row.steps();
+    row.in_flight /= row.steps() as f64;
+    row.copies /= looks as f64;
+    row.barred /= looks as f64;
+    row
+}
+
+/// Each block goes to a board, which stores words of its own. Then so many messages with data go from such boards to others, one token with each.
+fn carrying(rng: &mut Rng, (boards, blocks, tokens): Sizes, in_flight: usize) -> Rack {
+    let mut rack = Rack::open(boards, blocks, tokens).expect("sizes in range");
+    let mut step = |step: Step| rack.step(step).expect("the board has the tokens");
+    let holders: Vec<u8> = (0..blocks).map(|_| 1 + rng.below(boards as usize) as u8).collect();
+    for (block, &component) in (0..).zip(&holders) {
+        step(Step::Send { component: HOME, block, target: component, plain: tokens as u8 - 1, owner: true, data: true });
+        step(Step::Deliver { position: 0 });
+        for word in 0..WORDS as u8 {
+            step(Step::Store { component, block, word, value: rng.draw() as u32 });
+        }
+    }
+    for _ in 0..in_flight {
+        let block = rng.below(blocks as usize);
+        let (component, other) = (holders[block], rng.below(boards as usize) as u8);
+        let target = other + u8::from(other >= component);
+        step(Step::Send { component, block: block as u8, target, plain: 1, owner: false, data: true });
+    }
+    rack
 }
 
 /// Three plain tokens with data go from home to every board.

@@ -1,6 +1,6 @@
 //! Steps per second, in interleaved rounds of one process.
 
-use crate::engines::{self, Engine};
+use crate::engines::{self, Engine, Records};
 use crate::rows::{self, Row};
 use crate::Call;
 use second::model::{self, Rack};
@@ -12,6 +12,8 @@ use std::time::{Duration, Instant};
 const STEPS: usize = 60_000;
 /// Soundness by the model is slow: it gets the first steps only.
 const MODEL_STEPS: usize = 3000;
+/// Renewing the model's racks is slower still: it then gets one pass of so many steps in a round.
+const RENEWED_MODEL_STEPS: usize = 512;
 const ROUNDS: usize = 15;
 /// How long one measurement takes at least.
 const SHARE: Duration = Duration::from_millis(12);
@@ -22,68 +24,72 @@ struct Pass {
     steps: usize,
 }
 
-/// Records as they are before the first step, and those that the steps change.
-struct Records {
-    fresh: Vec<Vec<u8>>,
-    used: Vec<Vec<u8>>,
+impl Pass {
+    /// Nanoseconds a step.
+    fn nanos(&self) -> f64 {
+        self.took.as_secs_f64() * 1e9 / self.steps as f64
+    }
 }
 
-impl Records {
-    fn renew(&mut self) {
-        for (used, fresh) in self.used.iter_mut().zip(&self.fresh) {
-            used.copy_from_slice(fresh);
+/// Between two parts of a list the records are renewed, which is not measured.
+fn singly(row: &Row, order: &[(usize, &[u8])], records: &mut Records, engine: &Engine, replies: &mut [u64]) -> Pass {
+    let mut took = Duration::ZERO;
+    for (part, replies) in order.chunks(row.steps_of_part()).zip(replies.chunks_mut(row.steps_of_part())) {
+        records.renew();
+        let start = Instant::now();
+        for ((number, bytes), reply) in part.iter().zip(replies) {
+            *reply = (engine.step)(black_box(&mut records.used[*number]), black_box(bytes));
         }
+        took += start.elapsed();
     }
-}
-
-fn singly(order: &[(usize, &[u8])], records: &mut Records, engine: &Engine, replies: &mut [u64]) -> Pass {
-    records.renew();
-    let start = Instant::now();
-    for ((number, bytes), reply) in order.iter().zip(replies) {
-        *reply = (engine.step)(black_box(&mut records.used[*number]), black_box(bytes));
-    }
-    Pass { took: start.elapsed(), steps: order.len() }
+    Pass { took, steps: order.len() }
 }
 
 fn in_runs(row: &Row, runs: &[(usize, usize, usize)], records: &mut Records, engine: &Engine, replies: &mut [u64]) -> Pass {
-    records.renew();
-    let start = Instant::now();
-    let mut steps = 0;
-    for &(number, mut at, count) in runs {
-        let places = &mut replies[steps..steps + count];
-        steps += (engine.run)(black_box(&mut records.used[number]), black_box(&row.works[number].list), &mut at, places);
+    let (mut took, mut steps) = (Duration::ZERO, 0);
+    for part in runs.chunks(row.runs_of_part()) {
+        records.renew();
+        let start = Instant::now();
+        for &(number, mut at, count) in part {
+            let places = &mut replies[steps..steps + count];
+            steps += (engine.run)(black_box(&mut records.used[number]), black_box(&row.works[number].list), &mut at, places);
+        }
+        took += start.elapsed();
     }
-    let took = start.elapsed();
     assert_eq!(steps, row.steps());
     Pass { took, steps }
 }
 
 /// The model on its values; it is spared the decoding.
 fn by_model(order: &[(usize, &[u8])], row: &Row, asks: bool, replies: &mut [u64]) -> Pass {
-    let mut racks: Vec<Rack> = row.works.iter().map(|work| work.rack.clone()).collect();
-    let start = Instant::now();
-    for ((number, bytes), reply) in order.iter().zip(replies) {
-        let rack = &mut racks[*number];
-        let given = model::read(black_box(bytes)).and_then(|step| {
-            if asks && !black_box(&*rack).sound() {
-                return Err(model::Refusal::Unsound);
-            }
-            rack.step(step)
-        });
-        *reply = reply::of_reply(given);
+    let mut took = Duration::ZERO;
+    for (part, replies) in order.chunks(row.steps_of_part()).zip(replies.chunks_mut(row.steps_of_part())) {
+        let mut racks: Vec<Rack> = row.works.iter().map(|work| work.rack.clone()).collect();
+        let start = Instant::now();
+        for ((number, bytes), reply) in part.iter().zip(replies) {
+            let rack = &mut racks[*number];
+            let given = model::read(black_box(bytes)).and_then(|step| {
+                if asks && !black_box(&*rack).sound() {
+                    return Err(model::Refusal::Unsound);
+                }
+                rack.step(step)
+            });
+            *reply = reply::of_reply(given);
+        }
+        took += start.elapsed();
     }
-    Pass { took: start.elapsed(), steps: order.len() }
+    Pass { took, steps: order.len() }
 }
 
 /// Passes until the share of time is used: nanoseconds a step.
 fn share(mut pass: impl FnMut() -> Pass) -> f64 {
-    let (mut took, mut steps) = (Duration::ZERO, 0);
-    while took < SHARE {
+    let mut all = Pass { took: Duration::ZERO, steps: 0 };
+    while all.took < SHARE {
         let one = pass();
-        took += one.took;
-        steps += one.steps;
+        all.took += one.took;
+        all.steps += one.steps;
     }
-    took.as_secs_f64() * 1e9 / steps as f64
+    all.nanos()
 }
 
 fn median(values: impl Iterator<Item = f64>) -> f64 {
@@ -95,27 +101,26 @@ fn median(values: impl Iterator<Item = f64>) -> f64 {
 /// By round: nanoseconds a step of each engine, then of the model.
 fn measure(row: &Row, call: Call, engines: &[Engine]) -> Vec<Vec<f64>> {
     let (order, runs) = (row.order(STEPS), row.runs());
-    let model_order = if call == Call::Step { &order[..MODEL_STEPS] } else { &order[..] };
+    let model_order = match call {
+        _ if row.renewed => &order[..RENEWED_MODEL_STEPS],
+        Call::Step => &order[..MODEL_STEPS],
+        Call::Run => &order[..],
+    };
     let mut replies = vec![0; row.steps()];
-    let mut records: Vec<Records> = engines
-        .iter()
-        .map(|engine| {
-            let fresh = engines::records(row, engine.layout);
-            Records { used: fresh.clone(), fresh }
-        })
-        .collect();
+    let mut records: Vec<Records> = engines.iter().map(|engine| Records::new(row, engine.layout)).collect();
     let mut first: Option<Vec<u64>> = None;
     let mut rounds = Vec::new();
     for _ in 0..ROUNDS {
         let mut nanos = Vec::new();
         for (engine, records) in engines.iter().zip(&mut records) {
             nanos.push(share(|| match call {
-                Call::Step => singly(&order, records, engine, &mut replies),
+                Call::Step => singly(row, &order, records, engine, &mut replies),
                 Call::Run => in_runs(row, &runs, records, engine, &mut replies),
             }));
             assert!(*first.get_or_insert_with(|| replies.clone()) == replies, "{} gives other replies", engine.name);
         }
-        nanos.push(share(|| by_model(model_order, row, call == Call::Step, &mut replies)));
+        let mut pass = || by_model(model_order, row, call == Call::Step, &mut replies);
+        nanos.push(if row.renewed { pass().nanos() } else { share(pass) });
         if call == Call::Step || row.works.len() == 1 {
             let same = first.as_ref().is_some_and(|first| first[..model_order.len()] == replies[..model_order.len()]);
             assert!(same, "the model gives other replies");
