@@ -26,6 +26,11 @@ pub words-eight : (t : List ℕ) → length (words .read t) ≡ 8
 unfolding words
 words-eight t = length-readItems (big 4) 8 t
 
+-- any bytes are words
+pub words-formed : (t : List ℕ) → words .wellFormed t ≡ true
+unfolding words
+words-formed t = formed-below (big 4) 8 t ∙ below-of (λ i. true) 8 (λ i l. refl)
+
 -- the words are all 0 where all their bytes are
 pub words-zero : (s : List ℕ) (at : ℕ) → all (eqb 0) (words .read (slice at wordsSize s)) ≡ allBelow wordsSize (λ i. eqb (getD s (at + i) 0) 0)
 unfolding words
@@ -99,15 +104,8 @@ module _ (s : List ℕ) (at : ℕ) where
       ∙ formed-pair byte (pair flag flag) (at + messagePlainOffset) s
       ∙ formed-pair flag flag (at + 3 + 1) s
       ∙ (λ i. flag-formed s (at + 3 + 1) (at + messageOwnerOffset) (omega arith) i && flag-formed s (at + 3 + 1 + 1) (at + dataOffset) (omega arith) i))
-    where
-      words-formed : (t : List ℕ) → wellFormedItems (big 4) 8 t ≡ true
-      words-formed t = formed-below (big 4) 8 t ∙ below-of (λ i. true) 8 (λ i l. refl)
 
 -- ---- the record is of the layout's form where each message is, and of each block the lanes and the claims
-
-pub words-formed : (t : List ℕ) → words .wellFormed t ≡ true
-unfolding words
-words-formed t = formed-below (big 4) 8 t ∙ below-of (λ i. true) 8 (λ i l. refl)
 
 module _ (s : List ℕ) where
   pub block-formed : (n at : ℕ) → n ≤ 15 → block n .wellFormed (slice at blockSize s) ≡ (tokenLanes n .wellFormed (slice at lanesSize s) && claims n .wellFormed (slice (at + claimsOffset) claimsSize s))

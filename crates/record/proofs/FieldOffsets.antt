@@ -23,12 +23,19 @@ use Rattle.spec_rack.specs.Rack.{Block, noCell, noBlock, noMessage, blockAt, ce
 use Rattle.spec_rack.specs.Rules.{withClaims}
 use Rattle.record.specs.Changes.{withMesh, replaceCell}
 use Rattle.spec_rack.proofs.LayoutParts.{BlockFits, words-size, claims-size, message-size, header-size, message-lawful, message-full, header-lawful}
-use Rattle.spec_rack.proofs.GetPut.{withLaneTokens, count-write, mesh-place, claims-place, words-place, withWords, tokens-spread, Formed, law, boards-is, blocks-is, tokens-is, mesh-is, stands, read-figure, write-figure, stands-figure, read-spread, write-spread, mesh-items, mesh-stands, mesh-unchanged}
+use Rattle.spec_rack.proofs.GetPut.{withLaneTokens, count-write, mesh-place, claims-place, block-place, words-place, withWords, tokens-spread, Formed, law, boards-is, blocks-is, tokens-is, mesh-is, stands, read-figure, write-figure, stands-figure, read-spread, write-spread, mesh-items, mesh-stands, mesh-unchanged}
 
 -- the header is of its form whatever it holds
 pub header-formed : (s : List ℕ) → header .wellFormed s ≡ true
 unfolding header
 header-formed s = refl
+
+-- the words of a component, in any bytes whose header has sizes that the layout has room for
+pub words-look : (s : List ℕ) (b c : ℕ) → boardsIn s ≤ 15 → messagesIn s ≤ 64 → b < blocksIn s → c ≤ boardsIn s → cellAt (get s) b c .words ≡ words .read (slice (cellWordsOffset b c) wordsSize s)
+unfolding get
+words-look s b c hn hm hb hc =
+    within (block-place (boardsIn s) (blocksIn s) (messagesIn s) hn hm b hb) (words-place (boardsIn s) hn c hc) .looks s
+    ∙ (λ i. words .read (slice (let q : blockOffset b + (wordsOffset + wordsSize * c) ≡ cellWordsOffset b c = omega arith in q i) (words-size i) s))
 
 -- a byte of a part
 part-at : (p n i : ℕ) (s : List ℕ) → i < n → getD (slice p n s) i 0 ≡ getD s (p + i) 0
@@ -80,9 +87,7 @@ module _ (s : List ℕ) (ok : Formed s) where
 
   module _ (b c : ℕ) (hb : b < blocksIn s) (hc : c ≤ boardsIn s) where
     pub words-at : (at : ℕ) → at ≡ cellWordsOffset b c → cellAt (get s) b c .words ≡ words .read (slice at wordsSize s)
-    words-at at e =
-        read-figure s ok (words-place (boardsIn s) (ok .boards) c hc) b hb
-        ∙ (λ i. words .read (slice (let q : blockOffset b + (wordsOffset + wordsSize * c) ≡ at = omega arith in q i) (words-size i) s))
+    words-at at e = words-look s b c (ok .boards) (ok .messages) hb hc ∙ ap (λ (k : ℕ). words .read (slice k wordsSize s)) (sym e)
 
     -- other words change 32 bytes
     pub words-put : (ws : List ℕ) → put (replaceCell (get s) b c (toCell (cellTokens (cellAt (get s) b c), ws))) s ≡ modifyAt (cellWordsOffset b c) wordsSize (words .write ws) s

@@ -1,5 +1,5 @@
 -- The words of a message copied to a component: copied bytes are written words, and all other bytes stay, by the cuts in front of the words and behind them.
-use Prim.Native.Nat.{ℕ, _+_, _*_, _≤_, _<_}
+use Prim.Native.Nat.{ℕ, _+_, _≤_, _<_}
 use native.Mathlib.Nat.{le-of-eq}
 use native.Mathlib.Omega.{arith}
 use mathlib.Core.Path.{_≡_, refl, sym, ap, _∙_}
@@ -10,19 +10,18 @@ use Rattle.spec_base.specs.Number.{Bytes}
 use Rattle.spec_base.specs.Layout.{slice}
 use Rattle.spec_base.proofs.Parts.{length-part, bytes-take, bytes-drop}
 use Rattle.spec_base.proofs.Laws.{Stands, cuts-length, cut-first, cut-second, cut-rest}
-use Rattle.spec_base.proofs.Places.{within}
 use Rattle.spec_rack.specs.declared.Message.{Message}
 use Rattle.spec_rack.specs.Rack.{cellAt, messageAt}
-use Rattle.spec_rack.specs.RecordLayout.{blockOffset, wordsOffset, wordsSize, cellWordsOffset, messageOffset, messageWordsOffset, words, get, put, boardsIn, blocksIn, messagesIn}
+use Rattle.spec_rack.specs.RecordLayout.{wordsSize, cellWordsOffset, messageOffset, messageWordsOffset, words, get, put, messagesIn}
 use Rattle.spec_rack.specs.WordCopy.{WordsCopied}
 use Rattle.record.specs.Needs.{CellInRecord}
 use Rattle.record.specs.Changes.{withWords, replaceCell}
 use Rattle.spec_rack.proofs.LayoutParts.{words-size, words-lawful, words-full}
-use Rattle.spec_rack.proofs.GetPut.{Formed, block-place, words-place}
+use Rattle.spec_rack.proofs.GetPut.{Formed}
 use Rattle.record_mesh.proofs.ByteCopies.{copied}
 use Rattle.record.proofs.FieldAccess.{wellFormed}
 use Rattle.record.proofs.FieldBytes.{words-formed, message-read}
-use Rattle.record.proofs.FieldOffsets.{message-at, words-put}
+use Rattle.record.proofs.FieldOffsets.{message-at, words-look, words-put}
 
 -- to copy the bytes of words is to write the words that are read there
 words-copied : (u t : List ℕ) → Bytes u → length u ≡ wordsSize → length t ≡ wordsSize → words .write (words .read u) t ≡ u
@@ -30,13 +29,6 @@ words-copied u t h lu lt =
     let stands : Stands words u = record { bytes = h; wellFormed = words-formed u; room = le-of-eq (words-size ∙ sym lu) } in
     words-full .fills (words .read u) (words-lawful .holds u h) t u (lt ∙ sym words-size) (lu ∙ sym words-size)
     ∙ words-lawful .unchanged u stands
-
--- the words of a component in any bytes whose header has sizes that the layout has room for
-words-look : (t : List ℕ) (b c : ℕ) → boardsIn t ≤ 15 → messagesIn t ≤ 64 → b < blocksIn t → c ≤ boardsIn t → cellAt (get t) b c .words ≡ words .read (slice (cellWordsOffset b c) wordsSize t)
-unfolding get
-words-look t b c hn hm hb hc =
-    within (block-place (boardsIn t) (blocksIn t) (messagesIn t) hn hm b hb) (words-place (boardsIn t) hn c hc) .looks t
-    ∙ (λ i. words .read (slice (let q : blockOffset b + (wordsOffset + wordsSize * c) ≡ cellWordsOffset b c = omega arith in q i) (words-size i) t))
 
 module _ (s : List ℕ) (bytes : Bytes s) (i b c : ℕ) (pre : CellInRecord s b c × (i < messagesIn s)) where
   abbrev pub from : ℕ

@@ -27,7 +27,7 @@ use Rattle.record.specs.Changes.{TokenStateOf, withTokenState, withWords, repla
 use Rattle.record.proofs.Sequencing.{message-fits, cell-fits}
 use Rattle.record.proofs.MeshBytes.{cell-of-state, fits, cell-read, cell-in-cell, cell-there, cell-cell, cell-mesh}
 use Rattle.step_checks.proofs.CheckFacts.{deliver-passed}
-use Rattle.step_deliver.specs.Filling.{CanFill, filled}
+use Rattle.step_deliver.specs.Filling.{CanFill}
 
 -- ---- before anything is changed
 
@@ -86,12 +86,6 @@ module _ (s : List ℕ) (bytes : Bytes s) (i : ℕ) (h : MessageHeader) (can : C
   filled-fits : CellFits (withTokens (cellAt (get s) (h .block) (h .target)) (messageAt (get s) i))
   filled-fits = ((sum-fits, (tt, tt)), cond-of WordsFit (m .header .«data») (m .words) (x .words) (m-fits .1) (x-fits .1))
 
-  -- the block and the target are those of the message
-  filled-is : replaceCell (get s) (h .block) (h .target) (withTokens (cellAt (get s) (h .block) (h .target)) (messageAt (get s) i)) ≡ filled (get s) i
-  unfolding filled
-  filled-is =
-      ap (λ (k : MessageHeader). replaceCell (get s) (k .block) (k .target) (withTokens (cellAt (get s) (k .block) (k .target)) (messageAt (get s) i))) (can .header)
-
   -- after the words: the target can be written, its words are those that the message leaves there, and a cell written there covers the copy
   pub record AfterWords (s₁ : List ℕ) : Type 0 where
     pub in-cell : CellInRecord s₁ (h .block) (h .target)
@@ -127,34 +121,30 @@ module _ (s : List ℕ) (bytes : Bytes s) (i : ℕ) (h : MessageHeader) (can : C
     few = omega (arith, sum-fits, told-before .plain, ap (λ (k : MessageHeader). k .plain) (can .header))
 
     pub tokens-filled : (sum : TokenState) → ((y : Cell) (n : Message) → TokenStateOf y state → h ≡ n .header → TokenStateOf (withTokens y n) sum)
-        → (s₂ : List ℕ) → s₂ ≡ put (replaceCell (get s₁) (h .block) (h .target) (withTokenState (cellAt (get s₁) (h .block) (h .target)) sum)) s₁ → s₂ ≡ put (filled (get s) i) s
+        → (s₂ : List ℕ) → s₂ ≡ put (replaceCell (get s₁) (h .block) (h .target) (withTokenState (cellAt (get s₁) (h .block) (h .target)) sum)) s₁ → s₂ ≡ put (replaceCell (get s) (h .block) (h .target) (withTokens (cellAt (get s) (h .block) (h .target)) (messageAt (get s) i))) s
     tokens-filled sum adds s₂ is =
         after .covered (withTokens x m) filled-fits s₂
         (is ∙ ap (λ (y : Cell). put (replaceCell (get s₁) (h .block) (h .target) y) s₁)
         (cell-of-state (withTokens x m) (cellAt (get s₁) (h .block) (h .target)) sum (adds x m told-before (can .header))
         (ap (λ (y : Cell). y .words) (after .cell) ∙ ap (λ (k : MessageHeader). cond (k .«data») (m .words) (x .words)) (can .header))))
-        ∙ ap (λ (r : Rack). put r s) filled-is
 
   -- ---- the mesh
 
-  module _ (s₁ : List ℕ) (is : s₁ ≡ put (filled (get s) i) s) where
-    is-cell : s₁ ≡ put (replaceCell (get s) (h .block) (h .target) (withTokens (cellAt (get s) (h .block) (h .target)) (messageAt (get s) i))) s
-    is-cell = is ∙ ap (λ (r : Rack). put r s) (sym filled-is)
-
+  module _ (s₁ : List ℕ) (is : s₁ ≡ put (replaceCell (get s) (h .block) (h .target) (withTokens (cellAt (get s) (h .block) (h .target)) (messageAt (get s) i))) s) where
     -- it is as it was
     read₁ : get s₁ ≡ replaceCell (get s) (h .block) (h .target) (withTokens (cellAt (get s) (h .block) (h .target)) (messageAt (get s) i))
-    read₁ = cell-read s bytes (can .sound) (h .block) (h .target) (can .target) (withTokens x m) filled-fits s₁ is-cell
+    read₁ = cell-read s bytes (can .sound) (h .block) (h .target) (can .target) (withTokens x m) filled-fits s₁ is
 
     pub can-remove : InLayout s₁ × (i < messagesIn s₁)
     can-remove = (
-      cell-in-cell s bytes (can .sound) (h .block) (h .target) (can .target) (withTokens x m) filled-fits s₁ is-cell (h .block) (h .target) (can .target) .whole,
+      cell-in-cell s bytes (can .sound) (h .block) (h .target) (can .target) (withTokens x m) filled-fits s₁ is (h .block) (h .target) (can .target) .whole,
       omega (arith, inMesh, mesh-is s₁, ap (λ (r : Rack). length (r .mesh)) read₁),
     )
 
     pub delivered-is : (s₂ : List ℕ) → s₂ ≡ put (withMesh (get s₁) (removeAt (get s₁ .mesh) i)) s₁ → s₂ ≡ put (delivered (get s) i) s
     unfolding delivered
     delivered-is s₂ is′ =
-        cell-mesh s bytes (can .sound) (h .block) (h .target) (can .target) (withTokens x m) filled-fits s₁ is-cell (removeAt (get s .mesh) i)
+        cell-mesh s bytes (can .sound) (h .block) (h .target) (can .target) (withTokens x m) filled-fits s₁ is (removeAt (get s .mesh) i)
         (omega (arith, length-removed (get s .mesh) i, mesh-is s, can .sound .whole .messages))
         (all-removed MessageFits (get s .mesh) i (fits s bytes (can .sound) .mesh-fits)) s₂
         (is′ ∙ ap (λ (k : Rack). put (withMesh (get s₁) (removeAt (k .mesh) i)) s₁) read₁)

@@ -1,11 +1,13 @@
 // Deliver: tokens from the mesh into a cell. Its line of the refusal table, and the change where it passes.
 ghost use mathlib.Core.Path.{_≡_};
 ghost use Rattle.spec_wire.specs.declared.Check.the-variants.{Pass};
-ghost use Rattle.spec_rack.specs.Rules.{check, after};
+ghost use Rattle.spec_rack.specs.Rack.{cellAt, messageAt};
+ghost use Rattle.spec_rack.specs.Rules.{withTokens, check, after};
 ghost use Rattle.spec_rack.specs.RecordLayout.{get, put};
 ghost use Rattle.record.specs.Needs.{SoundRecord};
 ghost use Rattle.spec_rack.specs.Entries.{replyToStep, bufferAfter};
-ghost use Rattle.step_deliver.specs.Filling.{CanFill, filled};
+ghost use Rattle.record.specs.Changes.{replaceCell};
+ghost use Rattle.step_deliver.specs.Filling.{CanFill};
 use spec_rack::Answer;
 use spec_rack::MESSAGE_COUNT_OFFSET;
 use spec_rack::MessageHeader;
@@ -16,7 +18,7 @@ use spec_wire::Step;
 // Gives the target what the message at a position brings: its words where it has data, and its tokens.
 fn fill_target(rec: &mut [u8], position: u8, header: MessageHeader)
     requires { ⌜ CanFill (now rec) position header ⌝ }
-    ensures { λ r. ⌜ now (rec .exit) ≡ put (filled (get (now (rec .entry))) position) (now (rec .entry)) ⌝ }
+    ensures { λ r. ⌜ now (rec .exit) ≡ put (replaceCell (get (now (rec .entry))) (header .block) (header .target) (withTokens (cellAt (get (now (rec .entry))) (header .block) (header .target)) (messageAt (get (now (rec .entry))) position))) (now (rec .entry)) ⌝ }
 {
     let block = header.block;
     let target = header.target;
