@@ -4,9 +4,13 @@
  * hyaloneth_view.h reads its figures. The engine keeps nothing between calls. A policy hands in step records as bytes; hyaloneth_wire.h writes and
  * reads them.
  *
- * A result is one 64-bit number: bits 56 to 63 the kind of answer, bits 0 to 31 its number; HYL_KIND, HYL_REFUSAL, HYL_COUNT, HYL_WORD_OF and
- * HYL_LETTER_OF take it apart. A call that is refused changes nothing that was lent. No call relies on its caller having looked first: every
- * buffer, record, step and number is refused or accepted by its contents.
+ * A result is one 64-bit number: bits 56 to 63 the kind of answer, bits 48 to 55 a component, bits 32 to 47 a block, bits 0 to 31 a number. Parts
+ * that a kind does not have are 0: only a deliver gives a component and a block. HYL_KIND, HYL_REFUSAL, HYL_COUNT, HYL_WORD_OF, HYL_LETTER_OF,
+ * HYL_COMPONENT_OF and HYL_BLOCK_OF take it apart. A call that is refused changes nothing that was lent. No call relies on its caller having looked
+ * first: every buffer, record, step and number is refused or accepted by its contents.
+ *
+ * An accepted deliver gives HYL_SERVED, never HYL_DONE. So a caller that takes HYL_KIND(result) == HYL_DONE for "accepted" takes every deliver for a
+ * refused one: ask HYL_KIND(result) != HYL_REFUSED, or for HYL_SERVED.
  *
  * Duties of the caller, for every pointer and length:
  *   - the pointer is not NULL, also where the length is 0, and is aligned for its type;
@@ -26,8 +30,10 @@ extern "C" {
 /* Kinds of answer besides HYL_DONE and HYL_REFUSED. */
 #define HYL_WORD_GIVEN 2u   /* a load: the word */
 #define HYL_LETTER_GIVEN 3u /* a state letter: its ASCII code */
+#define HYL_SERVED 4u       /* a deliver: the target and the block of its message */
 
-/* The word of an answered load, and the letter of a state letter; 0 where the result is none. The names in capitals stand for the functions. */
+/* The word of an answered load, the letter of a state letter, the component and the block that a deliver served; 0 where the result has none. Home
+ * and the first block are 0 too, so ask for HYL_SERVED first. The names in capitals stand for the functions: a deliver as the argument is made once. */
 static inline uint32_t hyl_word_of(uint64_t result)
 {
     return hyl_kind(result) == HYL_WORD_GIVEN ? (uint32_t)result : 0;
@@ -38,8 +44,20 @@ static inline char hyl_letter_of(uint64_t result)
     return hyl_kind(result) == HYL_LETTER_GIVEN ? (char)(uint8_t)result : '\0';
 }
 
+static inline uint32_t hyl_component_of(uint64_t result)
+{
+    return hyl_kind(result) == HYL_SERVED ? (uint32_t)(result >> 48) & 0xff : 0;
+}
+
+static inline uint32_t hyl_block_of(uint64_t result)
+{
+    return hyl_kind(result) == HYL_SERVED ? (uint32_t)(result >> 32) & 0xffff : 0;
+}
+
 #define HYL_WORD_OF(result) hyl_word_of(result)
 #define HYL_LETTER_OF(result) hyl_letter_of(result)
+#define HYL_COMPONENT_OF(result) hyl_component_of(result)
+#define HYL_BLOCK_OF(result) hyl_block_of(result)
 
 /* The refusals, by document 01's numbers. HYL_TORN (1) and HYL_SHORT_BUFFER (20) are in hyaloneth_wire.h. */
 #define HYL_UNSOUND 2u      /* buffer too short for a record, or record not sound */
@@ -80,8 +98,9 @@ uint64_t hyl_open(uint8_t *rec, size_t rec_len, uint32_t boards, uint32_t blocks
 /* Gives one step record to the record in a buffer.
  *   rec, rec_len    the buffer that holds the record
  *   step, step_len  the bytes of the step record, all of them
- * HYL_WORD_GIVEN with the word for a load, HYL_DONE for any other step; refused with HYL_TORN, then HYL_UNSOUND, then by the step's own lines of the
- * refusal table in document 01's order. Whether the record is sound is decided anew at each call: see hyl_run for many steps. */
+ * HYL_WORD_GIVEN with the word for a load, HYL_SERVED with the target and the block of its message for a deliver, HYL_DONE for any other step;
+ * refused with HYL_TORN, then HYL_UNSOUND, then by the step's own lines of the refusal table in document 01's order. Whether the record is sound is
+ * decided anew at each call: see hyl_run for many steps. */
 uint64_t hyl_step(uint8_t *rec, size_t rec_len, const uint8_t *step, size_t step_len);
 
 /* Gives the step records that stand one behind the other in a list, as so many calls of hyl_step would, but decides once whether the record is

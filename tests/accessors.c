@@ -27,21 +27,39 @@ static void expect(const char *accessor, uint64_t got, uint64_t expected)
 
 int main(void)
 {
-    static const unsigned kinds[] = {HYL_DONE, HYL_REFUSED, HYL_WORD_GIVEN, HYL_LETTER_GIVEN, 4, 255};
+    static const unsigned kinds[] = {HYL_DONE, HYL_REFUSED, HYL_WORD_GIVEN, HYL_LETTER_GIVEN, HYL_SERVED, 5, 255};
     static const uint32_t numbers[] = {0, 1, 20, 'M', 0x80000000u, 0xffffffffu};
+    /* Delivers as the engine packs them: the number, the component, the block. */
+    static const struct {
+        uint64_t packed;
+        uint32_t component, block;
+    } served[] = {
+        {UINT64_C(0x0401000000000000), 1, 0},
+        {UINT64_C(0x0403000A00000000), 3, 10},
+        {UINT64_C(0x040F001F00000000), 15, 31},
+        {UINT64_C(0x0400000000000000), 0, 0},
+    };
     unsigned k, i;
 
     for (k = 0; k < sizeof kinds / sizeof *kinds; k++)
         for (i = 0; i < sizeof numbers / sizeof *numbers; i++) {
             unsigned kind = kinds[k];
             uint32_t number = numbers[i];
-            /* Bits 32 to 55 belong to no accessor. */
+            /* A component and a block, which no kind but HYL_SERVED has. */
             result = (uint64_t)kind << 56 | UINT64_C(0xabcdef) << 32 | number;
             expect("HYL_KIND", HYL_KIND(next()), kind);
             expect("HYL_REFUSAL", HYL_REFUSAL(next()), kind == HYL_REFUSED ? number : 0);
             expect("HYL_COUNT", HYL_COUNT(next()), kind == HYL_DONE ? number : 0);
             expect("HYL_WORD_OF", HYL_WORD_OF(next()), kind == HYL_WORD_GIVEN ? number : 0);
             expect("HYL_LETTER_OF", (unsigned char)HYL_LETTER_OF(next()), kind == HYL_LETTER_GIVEN ? number & 0xff : 0);
+            expect("HYL_COMPONENT_OF", HYL_COMPONENT_OF(next()), kind == HYL_SERVED ? 0xab : 0);
+            expect("HYL_BLOCK_OF", HYL_BLOCK_OF(next()), kind == HYL_SERVED ? 0xcdef : 0);
         }
+    for (i = 0; i < sizeof served / sizeof *served; i++) {
+        result = served[i].packed;
+        expect("HYL_KIND", HYL_KIND(next()), HYL_SERVED);
+        expect("HYL_COMPONENT_OF", HYL_COMPONENT_OF(next()), served[i].component);
+        expect("HYL_BLOCK_OF", HYL_BLOCK_OF(next()), served[i].block);
+    }
     return failures != 0;
 }

@@ -110,6 +110,10 @@ for script in hosts/traces/*.trace; do
         "$trace" run --show "$script" >"$out/$name.show"
         same "hosts/traces/$name.show" "$out/$name.show"
     fi
+    if test -f "hosts/traces/$name.rackrun"; then
+        "$trace" run --rackrun "$script" >"$out/$name.rackrun"
+        same "hosts/traces/$name.rackrun" "$out/$name.rackrun"
+    fi
     # To bytes and back: the bytes are the same, and run alike.
     "$trace" assemble "$script" >"$out/$name.bytes"
     "$trace" disassemble "$out/$name.bytes" >"$out/$name.trace"

@@ -1,6 +1,6 @@
 /* Compares the view of include/hyaloneth_view.h with a second account of the rack: plain arrays that change by document 01's rules at each step that
- * the engine accepts, and know no bytes. Every figure is compared after every accepted step, so that a wrong offset is found. Exits with 1 at the
- * first difference.
+ * the engine accepts, and know no bytes. Every figure is compared after every accepted step, so that a wrong offset is found; so is whom a deliver
+ * served. Exits with 1 at the first difference.
  *
  * Argument, if any: a file. Some of the records go there, one after the other, and their figures to the standard output, in the form that
  * hosts/rust/examples/figures.rs prints them in. */
@@ -223,14 +223,18 @@ static void step(uint32_t kind, uint32_t component, uint32_t block, uint32_t wor
 {
     const uint32_t n[HYL_WIRE_PLACES] = {kind, component, block, word, value, target, plain, owner, data, position};
     uint8_t bytes[HYL_WIRE_LONGEST];
-    uint64_t written = hyl_wire_write(n, HYL_WIRE_PLACES, bytes, sizeof bytes, 0);
+    uint64_t written = hyl_wire_write(n, HYL_WIRE_PLACES, bytes, sizeof bytes, 0), result;
 
     if (HYL_KIND(written) != HYL_DONE) {
         printf("view: a step was not written\n");
         exit(1);
     }
-    if (HYL_KIND(hyl_step(rec, rec_len, bytes, HYL_COUNT(written))) == HYL_REFUSED)
+    result = hyl_step(rec, rec_len, bytes, HYL_COUNT(written));
+    if (HYL_KIND(result) == HYL_REFUSED)
         return;
+    same("the kind of a result", HYL_KIND(result), kind == HYL_DELIVER ? HYL_SERVED : HYL_DONE);
+    same("the component that a deliver served", HYL_COMPONENT_OF(result), kind == HYL_DELIVER ? rack.mesh[position].target : 0);
+    same("the block that a deliver served", HYL_BLOCK_OF(result), kind == HYL_DELIVER ? rack.mesh[position].block : 0);
     apply(n);
     accepted++;
     kinds[kind - HYL_LOAD]++;
@@ -371,6 +375,6 @@ int main(int argc, char **argv)
             return 1;
         }
     if (!records)
-        printf("%lu figures of the view in C, over %lu accepted steps, are as document 01's rules have them\n", figures, accepted);
+        printf("%lu figures of the view and of results in C, over %lu accepted steps, are as the rules have them\n", figures, accepted);
     return 0;
 }

@@ -109,55 +109,75 @@ static void take(const uint8_t *step, size_t step_len, uint64_t result)
 /* The policy that takes turns: its steps, and its raises refused because the board waits already, or because it is barred. */
 static unsigned steps, waiting, barred;
 
-/* Hands in the step that was written to `step` with this result. Gives the refusal's number, 0 where it was accepted. */
-static uint32_t make(const uint8_t *step, uint64_t written)
+/* Hands in the step that was written to `step` with this result. Gives the engine's result, or the writer's where it was not written. */
+static uint64_t make(const uint8_t *step, uint64_t written)
 {
     uint64_t result;
 
     steps++;
     if (HYL_KIND(written) != HYL_DONE)
-        return HYL_REFUSAL(written);
+        return written;
     result = hyl_step(rec, rec_len, step, HYL_COUNT(written));
     if (HYL_KIND(result) != HYL_REFUSED)
         take(step, HYL_COUNT(written), result);
-    return HYL_REFUSAL(result);
+    return result;
 }
 
-/* Makes a step that must be accepted. */
-static void must(const uint8_t *step, uint64_t written)
+/* The result of a step that must be accepted. */
+static uint64_t expect_accepted(uint64_t result)
 {
-    uint32_t refusal = make(step, written);
-
-    if (refusal != 0) {
-        printf("a step that must be accepted was refused %" PRIu32 "\n", refusal);
+    if (HYL_KIND(result) == HYL_REFUSED) {
+        printf("a step that must be accepted was refused %" PRIu32 "\n", HYL_REFUSAL(result));
         exit(1);
     }
+    return result;
+}
+
+/* Makes a step that must be accepted, and gives its result. */
+static uint64_t must(const uint8_t *step, uint64_t written)
+{
+    return expect_accepted(make(step, written));
 }
 
 /* Raises a claim, if the board may have one now. */
 static void raise_claim(uint32_t board, uint32_t block)
 {
     uint8_t step[STEP_ROOM];
-    uint64_t written = hyl_wire_write_raise(step, sizeof step, 0, board, block);
-    uint32_t refusal = make(step, written);
+    uint64_t result = make(step, hyl_wire_write_raise(step, sizeof step, 0, board, block));
 
-    if (refusal == HYL_WAITING)
+    if (HYL_REFUSAL(result) == HYL_WAITING)
         waiting++;
-    else if (refusal == HYL_BARRED)
+    else if (HYL_REFUSAL(result) == HYL_BARRED)
         barred++;
-    else if (refusal != 0) {
-        printf("a step that must be accepted was refused %" PRIu32 "\n", refusal);
-        exit(1);
-    }
+    else
+        expect_accepted(result);
 }
 
-/* Delivers all messages, in any order: the mesh keeps none. */
-static void deliver_all(void)
+/* Delivers a message, any of them: the mesh keeps no order. The result says whom it served. The step is refused where nothing is
+ * in flight. */
+static uint64_t deliver(void)
 {
     uint8_t step[STEP_ROOM];
+    uint32_t count = in_flight();
 
+    return must(step, hyl_wire_write_deliver(step, sizeof step, 0, draw(count > 0 ? count : 1)));
+}
+
+static void deliver_all(void)
+{
     while (in_flight() > 0)
-        must(step, hyl_wire_write_deliver(step, sizeof step, 0, draw(in_flight())));
+        deliver();
+}
+
+/* Delivers messages until one of this block arrives, and gives the component that it served. */
+static uint32_t deliver_block(uint32_t block)
+{
+    uint64_t result;
+
+    do
+        result = deliver();
+    while (HYL_KIND(result) != HYL_SERVED || HYL_BLOCK_OF(result) != block);
+    return HYL_COMPONENT_OF(result);
 }
 
 /* Brings all tokens of a block to its active board: what is in flight arrives first, then every other holder forwards. */
@@ -206,25 +226,28 @@ static uint32_t source(uint32_t reader, uint32_t block)
     return best;
 }
 
-/* A board reads an unclaimed block: a holder with data sends it a token with the words. Some messages are left in flight for later. */
+/* A board reads an unclaimed block. Every token here travels with the words, so who is served with the block can read it. Messages that the reader
+ * need not wait for stay in flight. */
 static void read_turn(uint32_t block)
 {
     uint8_t step[STEP_ROOM];
     uint32_t reader = 1 + draw(hyl_view_boards(rec)), from, times;
 
     if (!valid(reader, block)) {
-        if (source(reader, block) == UINT32_MAX)
-            deliver_all();
-        /* The deliveries may have served the reader. */
         from = source(reader, block);
-        if (!valid(reader, block) && from != UINT32_MAX) {
+        /* Without a source all tokens of the block are in flight. */
+        if (from == UINT32_MAX)
+            from = deliver_block(block);
+        if (from != reader) {
             bool has_plain = plain(from, block) > 0;
             must(step, hyl_wire_write_send(step, sizeof step, 0, from, block, reader, has_plain, !has_plain, 1));
+            /* Some readers do not wait: their message stays in flight. */
+            if (in_flight() < 16 && draw(3) == 0)
+                return;
+            while (deliver_block(block) != reader)
+                ;
         }
     }
-    if (in_flight() > 0 && in_flight() < 16 && draw(3) == 0)
-        return;
-    deliver_all();
     for (times = draw(3) + 1; times > 0; times--)
         must(step, hyl_wire_write_load(step, sizeof step, 0, reader, block, draw(8)));
 }
@@ -414,7 +437,7 @@ static unsigned be_foolish(uint64_t seed)
 
 int main(int argc, char **argv)
 {
-    static const uint32_t sizes[][3] = {{1, 1, 1}, {4, 6, 5}, {15, 32, 15}, {15, 4, 64}};
+    static const uint32_t sizes[][3] = {{1, 1, 1}, {2, 1, 2}, {4, 6, 5}, {15, 32, 15}, {15, 4, 64}};
     uint64_t seed = 1;
     unsigned wrong = 0;
     size_t i;

@@ -2,7 +2,6 @@
 use Prim.Native.Nat.{ℕ, zero, suc, _+_, _-_, _/_, _%_, _≤_, _<_}
 use native.Mathlib.Nat.{add-assoc}
 use native.Mathlib.Numerals.{add-one, sub-one}
-use native.Mathlib.Decide.{decLe}
 use native.Mathlib.Omega.{arith}
 use mathlib.Core.Path.{_≡_, refl, sym, ap, _∙_}
 use mathlib.Core.Bool.{Bool, true, false, cond}
@@ -12,11 +11,11 @@ use lib.Seq.{take-set-le, drop-at, set-split, length-take-le}
 use lib.Dec.{ltb}
 use borrow.Author.Tests.{lt-ltb, le-ltb}
 use Rattle.spec_base.specs.Placing.{place}
-use Rattle.spec_base.proofs.Placing.{length-place, place-none, place-byte, Placed, placed-more, placed-same}
+use Rattle.spec_base.proofs.Placing.{place-none, place-byte, Placed, placed-more, placed-same}
 use Rattle.spec_wire.specs.declared.Refusal.{Refusal}
 use Rattle.spec_wire.specs.Refusals.{number}
 use Rattle.spec_wire.proofs.RefusalTable.{number-known}
-use Rattle.spec_rack.specs.declared.Answer.the-variants.{Done, Word}
+use Rattle.spec_rack.specs.declared.Answer.the-variants.{Done, Word, Served}
 use Rattle.spec_rack.specs.declared.Reply.{Reply}
 use Rattle.spec_rack.specs.declared.Reply.the-variants.{Accepted, Refused}
 use Rattle.spec_rack.specs.Rackrun.{digit, digits, decimal, replyText, line}
@@ -41,6 +40,7 @@ length-said : (r : Reply) → length (replyText r) ≤ 9
 unfolding replyText
 length-said (Accepted Done) = omega arith
 length-said (Accepted (Word w)) = omega (arith, length-digits 16 8 w)
+length-said (Accepted (Served c b)) = omega (arith, length-append (decimal 2 c) (46 ∷ decimal 2 b), length-decimal 2 c, length-decimal 2 b)
 length-said (Refused r) = omega (arith, length-decimal 1 (number r))
 
 pub length-line : (i : ℕ) (r : Reply) → length (line i r) ≤ 16
@@ -66,12 +66,26 @@ decimal-more k j n l e =
     ap (λ (t : Bool). cond t (digit n ∷ []) (decimal k (n / 10) ++ digit (n % 10) ∷ [])) (le-ltb n 10 l)
     ∙ ap (λ (m : List ℕ). m ++ digit (n % 10) ∷ []) e
 
+-- a number of at most k + 1 digits
+abbrev AtMost : ℕ → ℕ → Type 0
+AtMost zero n = n < 10
+AtMost (suc k) n = AtMost k (n / 10)
+
+-- room for one digit more changes nothing
+decimal-wider : (k n : ℕ) → AtMost k n → decimal k n ≡ decimal (suc k) n
+unfolding decimal
+decimal-wider zero n l = decimal-last n ∙ sym (decimal-first 1 n l)
+decimal-wider (suc k) n l = ap (λ (m : List ℕ). cond (ltb n 10) (digit n ∷ []) (m ++ digit (n % 10) ∷ [])) (decimal-wider k (n / 10) l)
+
+decimal-three : (n : ℕ) → n < 1000 → decimal 2 n ≡ decimal 4 n
+decimal-three n l = decimal-wider 2 n (omega arith) ∙ decimal-wider 3 n (omega arith)
+
 decimal-two : (n : ℕ) → n < 100 → decimal 1 n ≡ decimal 4 n
-decimal-two n l = by (decLe 10 n)
-  where
-    by : Dec (10 ≤ n) → decimal 1 n ≡ decimal 4 n
-    by (yes h) = decimal-more 0 1 n h (decimal-last (n / 10)) ∙ sym (decimal-more 3 1 n h (decimal-first 3 (n / 10) (omega arith)))
-    by (no h) = decimal-first 1 n (omega (arith, h)) ∙ sym (decimal-first 4 n (omega (arith, h)))
+decimal-two n l = decimal-wider 1 n (omega arith) ∙ decimal-three n (omega arith)
+
+-- a byte has three digits at most
+pub byte-width : (n w : ℕ) → n < 256 → decimal 4 n ≡ digits 10 w n → w ≤ 3
+byte-width n w l e = omega (arith, ap length (decimal-three n (omega arith) ∙ e), length-decimal 2 n, length-digits 10 w n)
 
 -- ---- what is said
 
@@ -134,20 +148,44 @@ digits-ended at base count n end out h =
 
 -- ---- a line
 
--- the index and a space, a letter, digits and a newline
-pub line-placed : (at next i w b k n letter : ℕ) (r : Reply) (out out₁ out₂ : List ℕ) → at + 16 ≤ length out → decimal 4 i ≡ digits 10 w i → replyText r ≡ letter ∷ digits b k n
-    → (next ≡ at + w + 1) × (out₁ ≡ place at (digits 10 w i ++ 32 ∷ []) out) → (last : ℕ)
-    → (last ≡ next + 1 + k + 1) × (out₂ ≡ place (next + 1) (digits b k n ++ 10 ∷ []) (set out₁ next letter))
+-- a letter, digits and a byte after them
+pub number-placed : (at last letter b k n end : ℕ) (out out₁ : List ℕ) → at + 1 + k < length out
+    → (last ≡ at + 1 + k + 1) × (out₁ ≡ place (at + 1) (digits b k n ++ end ∷ []) (set out at letter))
+    → (last ≡ at + k + 2) × (out₁ ≡ place at (letter ∷ (digits b k n ++ end ∷ [])) out)
+number-placed at last letter b k n end out out₁ h (p, q) = (
+  omega arith,
+  placed-more at (at + 1) last (letter ∷ []) (digits b k n ++ end ∷ []) out (set out at letter) out₁ (omega arith)
+      (refl, place-byte at letter out (omega arith)) (omega (arith, length-append (digits b k n) (end ∷ []), length-digits b k n), q) .1,
+)
+
+-- a reply with one number
+pub reply-placed : (at last letter b k n : ℕ) (r : Reply) (out out₁ : List ℕ) → replyText r ≡ letter ∷ digits b k n
+    → (last ≡ at + k + 2) × (out₁ ≡ place at (letter ∷ (digits b k n ++ 10 ∷ [])) out) → Placed at (replyText r ++ 10 ∷ []) out last out₁
+reply-placed at last letter b k n r out out₁ e (p, q) =
+    placed-same at last (letter ∷ (digits b k n ++ 10 ∷ [])) (replyText r ++ 10 ∷ []) out out₁ (ap (λ (l : List ℕ). l ++ 10 ∷ []) (sym e))
+    (omega (arith, length-append (digits b k n) (10 ∷ []), length-digits b k n), q)
+
+-- a component, a point, a block
+pub served-placed : (at next last c b w v : ℕ) (out out₁ out₂ : List ℕ) → at ≤ length out → c < 256 → b < 256
+    → decimal 4 c ≡ digits 10 w c → decimal 4 b ≡ digits 10 v b
+    → (next ≡ at + w + 2) × (out₁ ≡ place at (100 ∷ (digits 10 w c ++ 46 ∷ [])) out) → (last ≡ next + v + 1) × (out₂ ≡ place next (digits 10 v b ++ 10 ∷ []) out₁)
+    → Placed at (replyText (Accepted (Served c b)) ++ 10 ∷ []) out last out₂
+unfolding replyText
+served-placed at next last c b w v out out₁ out₂ h lc lb ec eb (p, q) (p′, q′) =
+    let dc : decimal 2 c ≡ digits 10 w c = decimal-three c (omega arith) ∙ ec in
+    let db : decimal 2 b ≡ digits 10 v b = decimal-three b (omega arith) ∙ eb in
+    placed-same at last ((100 ∷ (digits 10 w c ++ 46 ∷ [])) ++ (digits 10 v b ++ 10 ∷ [])) (replyText (Accepted (Served c b)) ++ 10 ∷ []) out out₂
+    (ap {B = List ℕ} (λ l. 100 ∷ l) (append-assoc (digits 10 w c) (46 ∷ []) (digits 10 v b ++ 10 ∷ []) ∙ (λ j. sym dc j ++ 46 ∷ (sym db j ++ 10 ∷ [])) ∙ sym (append-assoc (decimal 2 c) (46 ∷ decimal 2 b) (10 ∷ []))))
+    (placed-more at next last (100 ∷ (digits 10 w c ++ 46 ∷ [])) (digits 10 v b ++ 10 ∷ []) out out₁ out₂ h
+    (omega (arith, length-append (digits 10 w c) (46 ∷ []), length-digits 10 w c), q) (omega (arith, length-append (digits 10 v b) (10 ∷ []), length-digits 10 v b), q′))
+
+-- the index and a space, then the reply
+pub line-placed : (at next last i w : ℕ) (r : Reply) (out out₁ out₂ : List ℕ) → at ≤ length out → decimal 4 i ≡ digits 10 w i
+    → (next ≡ at + w + 1) × (out₁ ≡ place at (digits 10 w i ++ 32 ∷ []) out) → Placed next (replyText r ++ 10 ∷ []) out₁ last out₂
     → Placed at (line i r) out last out₂
 unfolding line
-line-placed at next i w b k n letter r out out₁ out₂ h ei er (p, q) last (p′, q′) =
-    let dw : length (digits 10 w i) ≡ w = length-digits 10 w i in
-    let dk : length (digits b k n) ≡ k = length-digits b k n in
-    let lw : length (digits 10 w i ++ 32 ∷ []) ≡ w + 1 = length-append (digits 10 w i) (32 ∷ []) ∙ ap (λ (j : ℕ). j + 1) dw in
-    let few : w ≤ 5 = omega (arith, length-decimal 4 i, ap length ei) in
-    let l₁ : length out₁ ≡ length out = ap length q ∙ length-place at (digits 10 w i ++ 32 ∷ []) out (omega arith) in
-    placed-same at last ((digits 10 w i ++ 32 ∷ []) ++ letter ∷ (digits b k n ++ 10 ∷ [])) (line i r) out out₂
-    (append-assoc (digits 10 w i) (32 ∷ []) (letter ∷ (digits b k n ++ 10 ∷ [])) ∙ (λ j. sym ei j ++ 32 ∷ (sym er j ++ 10 ∷ [])))
-    (placed-more at next last (digits 10 w i ++ 32 ∷ []) (letter ∷ (digits b k n ++ 10 ∷ [])) out out₁ out₂ (omega arith) (omega arith, q)
-    (placed-more next (next + 1) last (letter ∷ []) (digits b k n ++ 10 ∷ []) out₁ (set out₁ next letter) out₂ (omega arith) (refl, place-byte next letter out₁ (omega arith))
-    (omega (arith, length-append (digits b k n) (10 ∷ [])), q′)))
+line-placed at next last i w r out out₁ out₂ h ei (p, q) second =
+    placed-same at last ((digits 10 w i ++ 32 ∷ []) ++ (replyText r ++ 10 ∷ [])) (line i r) out out₂
+    (append-assoc (digits 10 w i) (32 ∷ []) (replyText r ++ 10 ∷ []) ∙ (λ j. sym ei j ++ 32 ∷ (replyText r ++ 10 ∷ [])))
+    (placed-more at next last (digits 10 w i ++ 32 ∷ []) (replyText r ++ 10 ∷ []) out out₁ out₂ h
+    (omega (arith, length-append (digits 10 w i) (32 ∷ []), length-digits 10 w i), q) second)

@@ -8,14 +8,6 @@ ghost use Rattle.spec_rack.specs.Rackrun.{digit, digits, decimal, replyText, li
 use spec_rack::Answer;
 use spec_rack::Reply;
 
-// The text of a reply: a letter, then the lowest digits of a number.
-struct ReplyText {
-    letter: u8,
-    base: u64,
-    count: usize,
-    n: u64,
-}
-
 // A digit in ASCII.
 fn digit(n: u64) -> u8
     requires { ⌜ n < 32 ⌝ }
@@ -40,37 +32,6 @@ fn width(n: u64) -> usize
     if n < 10000 { 4 } else { 5 }
 }
 
-// The text of a reply. Trick: `ok` is the letter `o` and one digit in base 32; digit 20 prints as `k`.
-fn reply_text(reply: Reply) -> ReplyText
-    ensures { λ r. ⌜ (replyText reply ≡ r .letter ∷ digits (r .base) (r .count) (r .n)) × (1 ≤ r .base) × (r .base ≤ 32) × (r .count ≤ 8) ⌝ }
-{
-    match reply {
-        Reply::Accepted(answer) => match answer {
-            Answer::Done => ReplyText {
-                letter: b'o',
-                base: 32,
-                count: 1,
-                n: 20,
-            },
-            Answer::Word(word) => ReplyText {
-                letter: b'v',
-                base: 16,
-                count: 8,
-                n: word as u64,
-            },
-        },
-        Reply::Refused(refusal) => {
-            let n = base::results::number(refusal);
-            ReplyText {
-                letter: b'r',
-                base: 10,
-                count: width(n),
-                n,
-            }
-        }
-    }
-}
-
 // Places the lowest digits of a number from the last to the first, and a byte after them, and gives the offset behind it.
 fn put_digits(out: &mut [u8], at: usize, base: u64, count: usize, n: u64, end: u8) -> usize
     requires { ⌜ (at + count < length (now out)) × (1 ≤ base) × (base ≤ 32) ⌝ }
@@ -87,13 +48,57 @@ fn put_digits(out: &mut [u8], at: usize, base: u64, count: usize, n: u64, end: u
     at + count + 1
 }
 
+// Places a letter, the lowest digits of a number and a byte after them, and gives the offset behind it.
+fn put_number(
+    out: &mut [u8],
+    at: usize,
+    letter: u8,
+    base: u64,
+    count: usize,
+    n: u64,
+    end: u8,
+) -> usize
+    requires { ⌜ (at + 1 + count < length (now out)) × (1 ≤ base) × (base ≤ 32) ⌝ }
+    ensures { λ r. ⌜ (r ≡ at + count + 2) × (now (out .exit) ≡ place at (letter ∷ (digits base count n ++ end ∷ [])) (now (out .entry))) ⌝ }
+{
+    out[at] = letter;
+    put_digits(out, at + 1, base, count, n, end)
+}
+
+// Places whom a deliver served, component, point and block, and the newline.
+fn put_served(out: &mut [u8], at: usize, component: u8, block: u8) -> usize
+    requires { ⌜ at + 10 ≤ length (now out) ⌝ }
+    ensures { λ r. ⌜ (r ≡ at + length (replyText (Reply.Accepted (Answer.Served component block)) ++ 10 ∷ [])) × (now (out .exit) ≡ place at (replyText (Reply.Accepted (Answer.Served component block)) ++ 10 ∷ []) (now (out .entry))) ⌝ }
+{
+    let first = component as u64;
+    let second = block as u64;
+    let next = put_number(out, at, b'd', 10, width(first), first, b'.');
+    put_digits(out, next, 10, width(second), second, b'\n')
+}
+
+// Places the text of a reply and the newline. Trick: `ok` is the letter `o` and one digit in base 32; digit 20 prints as `k`.
+fn put_reply(out: &mut [u8], at: usize, reply: Reply) -> usize
+    requires { ⌜ at + 10 ≤ length (now out) ⌝ }
+    ensures { λ r. ⌜ (r ≡ at + length (replyText reply ++ 10 ∷ [])) × (now (out .exit) ≡ place at (replyText reply ++ 10 ∷ []) (now (out .entry))) ⌝ }
+{
+    match reply {
+        Reply::Accepted(answer) => match answer {
+            Answer::Done => put_number(out, at, b'o', 32, 1, 20, b'\n'),
+            Answer::Word(word) => put_number(out, at, b'v', 16, 8, word as u64, b'\n'),
+            Answer::Served { component, block } => put_served(out, at, component, block),
+        },
+        Reply::Refused(refusal) => {
+            let n = base::results::number(refusal);
+            put_number(out, at, b'r', 10, width(n), n, b'\n')
+        }
+    }
+}
+
 // Places a line.
 pub fn put_line(out: &mut [u8], at: usize, index: u64, reply: Reply) -> usize
     requires { ⌜ at + 16 ≤ length (now out) ⌝ }
     ensures { λ r. ⌜ (r ≡ at + length (line index reply)) × (now (out .exit) ≡ place at (line index reply) (now (out .entry))) ⌝ }
 {
-    let said = reply_text(reply);
     let next = put_digits(out, at, 10, width(index), index, b' ');
-    out[next] = said.letter;
-    put_digits(out, next + 1, said.base, said.count, said.n, b'\n')
+    put_reply(out, next, reply)
 }

@@ -199,15 +199,18 @@ soundness =
     }
 
 pub printed : Printed
-unfolding runAll when_refuse_else_ check after answer rules letterCheck letter meshLimit stored sent delivered forwarded raiseCheck raised lowerCheck lowered bit member insert remove firstFrom lowest opening openingCheck repliesOf ruledText lines frameSize frames readRecord readBody hasHeader kindOf decimal digits replyText line text openingReply openCheck openReply openAfter openingAfter
+unfolding runAll when_refuse_else_ check after answer rules letterCheck letter meshLimit stored sent delivered forwarded raiseCheck raised lowerCheck lowered bit member insert remove firstFrom lowest opening openingCheck repliesOf ruledText lines stepBytes fieldBytes recordBytes fieldArray frameSize frames readRecord readBody hasHeader kindOf decimal digits replyText line text openingReply openCheck openReply openAfter openingAfter
 printed =
     record {
       ok = refl;
       word = refl;
       refusal = refl;
       longest = refl;
+      served = refl;
+      served-largest = refl;
       under-three = refl;
       bad-sizes = refl;
       example = refl;
+      whom = refl;
       torn-ones = refl;
     }

@@ -166,6 +166,25 @@ module _ (r : Rack) (s : Sound r) where
   forwarded-keeps c b inN inB inT apart some room =
       sent-keeps c b _ _ _ _ inN inB inT apart some (omega arith) (λ e. e) (cell-sound r s b c inB inN .current) (λ e. e) room
 
+  -- a message and its target do not both have the owner
+  owner-once : (i : ℕ) → i < length (r .mesh)
+      → cellOwners (cellAt r (messageAt r i .header .block) (messageAt r i .header .target)) + messageOwners (messageAt r i) ≤ 1
+  owner-once i h =
+      let m = messageAt r i in
+      let sm = message-sound r s i h in
+      omega (
+        arith,
+        s .blocks (m .header .block) (sm .block) .owners,
+        in-flight-at r messageOwners i h,
+        sum-at cellOwners (blockAt r (m .header .block) .cells) (m .header .target) noCell (cell-in r s (m .header .block) (m .header .target) (sm .block) (sm .target)),
+      )
+
+  -- the target gets the tokens that the message carried
+  pub delivered-held : (i : ℕ) → i < length (r .mesh)
+      → held (withTokens (cellAt r (messageAt r i .header .block) (messageAt r i .header .target)) (messageAt r i))
+      ≡ held (cellAt r (messageAt r i .header .block) (messageAt r i .header .target)) + carried (messageAt r i)
+  delivered-held i h = held-more (cellAt r (messageAt r i .header .block) (messageAt r i .header .target)) (messageAt r i) (owner-once i h)
+
   pub delivered-keeps : (i : ℕ) → i < length (r .mesh) → Moved r (delivered r i)
   unfolding delivered
   delivered-keeps i h =
@@ -174,7 +193,7 @@ module _ (r : Rack) (s : Sound r) where
             with-cell-sound r s b c (sm .block) (sm .target) (withTokens x m) (removeAt (r .mesh) i) (more-sound x m once _ _ sx sm)
             (omega (arith, length-removed (r .mesh) i, s .few))
             (all-removed (SoundMessage (r .boards) (length (r .blocks))) (r .mesh) i (s .messages))
-            (delivered-balanced r held carried i c (withTokens x m) h (held-more x m once))
+            (delivered-balanced r held carried i c (withTokens x m) h (delivered-held i h))
             (delivered-balanced r cellOwners messageOwners i c (withTokens x m) h (owners-more x m once));
         coherent = λ mem coh.
             record { rows = simp length-set (coh .rows); has = moved (CellHas mem) (MessageHas mem) (more-has x m mem b) (coh .has) };
@@ -200,13 +219,7 @@ module _ (r : Rack) (s : Sound r) where
       sx = cell-sound r s b c (sm .block) (sm .target)
 
       once : cellOwners x + messageOwners m ≤ 1
-      once =
-          omega (
-            arith,
-            s .blocks b (sm .block) .owners,
-            in-flight-at r messageOwners i h,
-            sum-at cellOwners (blockAt r b .cells) c noCell (cell-in r s b c (sm .block) (sm .target)),
-          )
+      once = owner-once i h
 
       moved : (P : ℕ → Cell → Type 0) (Q : Message → Type 0) → (P b x → Q m → P b (withTokens x m))
           → Everywhere P Q r → Everywhere P Q (withCell r b c (withTokens x m) (removeAt (r .mesh) i))

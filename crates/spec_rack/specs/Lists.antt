@@ -6,7 +6,7 @@ use Rattle.spec_wire.specs.declared.Reading.{Reading}
 use Rattle.spec_wire.specs.declared.Reading.the-variants.{Step as Read, Refused as NoStep}
 use Rattle.spec_wire.specs.Reader.{readRecord}
 use Rattle.spec_rack.specs.declared.Answer.{Answer}
-use Rattle.spec_rack.specs.declared.Answer.the-variants.{Done, Word}
+use Rattle.spec_rack.specs.declared.Answer.the-variants.{Done, Word, Served}
 use Rattle.spec_rack.specs.declared.Reply.{Reply}
 use Rattle.spec_rack.specs.declared.Reply.the-variants.{Accepted, Refused}
 use Rattle.spec_rack.specs.FlatMemory.{Access, accessOf}
@@ -21,10 +21,11 @@ use Rattle.spec_rack.specs.Results.{packedReply}
 
 -- ---- any list, given to a state one item after the other. A state is a rack and an item a step; or a state is a lent buffer and an item a byte string.
 
--- the word of an answered load
+-- the word of an answered load; whom a deliver served is none
 abbrev pub wordsOf : Answer → List ℕ
 wordsOf Done = []
 wordsOf (Word w) = w ∷ []
+wordsOf (Served c b) = []
 
 abbrev pub answered : Reply → List ℕ
 answered (Accepted a) = wordsOf a

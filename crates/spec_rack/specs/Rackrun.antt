@@ -4,7 +4,7 @@ use mathlib.Core.Bool.{cond}
 use mathlib.Core.List.{List, [], _∷_, _++_}
 use lib.Dec.{ltb}
 use Rattle.spec_wire.specs.Refusals.{number}
-use Rattle.spec_rack.specs.declared.Answer.the-variants.{Done, Word}
+use Rattle.spec_rack.specs.declared.Answer.the-variants.{Done, Word, Served}
 use Rattle.spec_rack.specs.declared.Reply.{Reply}
 use Rattle.spec_rack.specs.declared.Reply.the-variants.{Accepted, Refused}
 use lib.ListN.{length, getD, take, drop}
@@ -27,10 +27,12 @@ unfoldable pub digits : ℕ → ℕ → ℕ → List ℕ
 digits b zero n = []
 digits b (suc k) n = digits b k (n / b) ++ digit (n % b) ∷ []
 
--- `ok`, `v` with eight hexadecimal digits, or `r` with the refusal's number
+-- `ok`, `v` with eight hexadecimal digits, `r` with the refusal's number, or `d` with the component and the block of a deliver, a point between them
+-- (document 02, No. 1)
 unfoldable pub replyText : Reply → List ℕ
 replyText (Accepted Done) = 111 ∷ 107 ∷ []
 replyText (Accepted (Word w)) = 118 ∷ digits 16 8 w
+replyText (Accepted (Served c b)) = 100 ∷ (decimal 2 c ++ 46 ∷ decimal 2 b)
 replyText (Refused r) = 114 ∷ decimal 1 (number r)
 
 -- a line: the index, a space, what is said, a newline

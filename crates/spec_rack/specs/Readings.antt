@@ -16,7 +16,7 @@ use Rattle.spec_wire.specs.StepRecord.{stepBytes}
 use Rattle.spec_wire.specs.Readings.{listing}
 use Rattle.spec_rack.specs.Claims.{Claims, noClaims, active}
 use Rattle.spec_rack.specs.declared.Message.{Message}
-use Rattle.spec_rack.specs.declared.Answer.the-variants.{Done, Word}
+use Rattle.spec_rack.specs.declared.Answer.the-variants.{Done, Word, Served}
 use Rattle.spec_rack.specs.declared.Reply.the-variants.{Accepted, Refused}
 use Rattle.spec_rack.specs.declared.Letter.the-variants.{M, I}
 use Rattle.spec_rack.specs.declared.Lettered.the-variants as Lettered
@@ -365,19 +365,35 @@ pub record Printed : Type 0 where
   pub word : line 4 (Accepted (Word 42)) ≡ 52 ∷ 32 ∷ 118 ∷ 48 ∷ 48 ∷ 48 ∷ 48 ∷ 48 ∷ 48 ∷ 50 ∷ 97 ∷ 10 ∷ []
   pub refusal : line 5 (Refused NoToken) ≡ 53 ∷ 32 ∷ 114 ∷ 53 ∷ 10 ∷ []
   pub longest : line 21845 (Refused ShortBuffer) ≡ 50 ∷ 49 ∷ 56 ∷ 52 ∷ 53 ∷ 32 ∷ 114 ∷ 50 ∷ 48 ∷ 10 ∷ []
+  -- "3 d3.10", and the largest numbers of a byte: both decimal, with no zero in front
+  pub served : line 3 (Accepted (Served 3 10)) ≡ 51 ∷ 32 ∷ 100 ∷ 51 ∷ 46 ∷ 49 ∷ 48 ∷ 10 ∷ []
+  pub served-largest : line 21845 (Accepted (Served 255 255)) ≡ 50 ∷ 49 ∷ 56 ∷ 52 ∷ 53 ∷ 32 ∷ 100 ∷ 50 ∷ 53 ∷ 53 ∷ 46 ∷ 50 ∷ 53 ∷ 53 ∷ 10 ∷ []
   -- under three bytes: "0 r1"; three and no good sizes: "0 r19", and nothing of the records behind
   pub under-three : map (text []) ([] ∷ (2 ∷ []) ∷ (2 ∷ 1 ∷ []) ∷ []) ≡ replicate 3 (48 ∷ 32 ∷ 114 ∷ 49 ∷ 10 ∷ [])
   pub bad-sizes : text [] (2 ∷ 1 ∷ 1 ∷ 0x13 ∷ 0 ∷ 4 ∷ 9 ∷ 0 ∷ 1 ∷ 0 ∷ []) ≡ 48 ∷ 32 ∷ 114 ∷ 49 ∷ 57 ∷ 10 ∷ []
-  -- the paper's input, and its output, whole
+  -- the paper's input, and its output, whole; line 2 is "2 d1.0", as document 02, No. 1, has it
   pub example :
       ruledText (0x02 ∷ 0x01 ∷ 0x03 ∷ joined listing)
       ≡ joined
       ((48 ∷ 32 ∷ 111 ∷ 107 ∷ 10 ∷ [])
       ∷ (49 ∷ 32 ∷ 111 ∷ 107 ∷ 10 ∷ [])
-      ∷ (50 ∷ 32 ∷ 111 ∷ 107 ∷ 10 ∷ [])
+      ∷ (50 ∷ 32 ∷ 100 ∷ 49 ∷ 46 ∷ 48 ∷ 10 ∷ [])
       ∷ (51 ∷ 32 ∷ 111 ∷ 107 ∷ 10 ∷ [])
       ∷ (52 ∷ 32 ∷ 118 ∷ 48 ∷ 48 ∷ 48 ∷ 48 ∷ 48 ∷ 48 ∷ 50 ∷ 97 ∷ 10 ∷ [])
       ∷ (53 ∷ 32 ∷ 114 ∷ 53 ∷ 10 ∷ [])
+      ∷ [])
+  -- Two plain tokens from home, of block 31 to board 15 and of block 10 with data to board 3; the younger is delivered first.
+  -- "0 ok", "1 ok", "2 ok", "3 d3.10", "4 d15.31", "5 r14"
+  pub whom :
+      ruledText
+      (0x0F ∷ 0x20 ∷ 0x0F ∷ joined (map stepBytes (Send 0 31 15 1 false false ∷ Send 0 10 3 1 false true ∷ Deliver 1 ∷ Deliver 0 ∷ Deliver 0 ∷ [])))
+      ≡ joined
+      ((48 ∷ 32 ∷ 111 ∷ 107 ∷ 10 ∷ [])
+      ∷ (49 ∷ 32 ∷ 111 ∷ 107 ∷ 10 ∷ [])
+      ∷ (50 ∷ 32 ∷ 111 ∷ 107 ∷ 10 ∷ [])
+      ∷ (51 ∷ 32 ∷ 100 ∷ 51 ∷ 46 ∷ 49 ∷ 48 ∷ 10 ∷ [])
+      ∷ (52 ∷ 32 ∷ 100 ∷ 49 ∷ 53 ∷ 46 ∷ 51 ∷ 49 ∷ 10 ∷ [])
+      ∷ (53 ∷ 32 ∷ 114 ∷ 49 ∷ 52 ∷ 10 ∷ [])
       ∷ [])
   -- a torn record costs only itself; two bytes left over are one torn step: "0 ok", "1 r1", "2 r14", "3 r1"
   pub torn-ones :

@@ -5,7 +5,7 @@ use lib.Dec.{leb}
 use Rattle.spec_wire.specs.declared.Refusal.the-variants.{Size}
 use Rattle.spec_rack.specs.RecordLayout.{recordLength}
 use Rattle.spec_wire.specs.Results.{packed, done, refused}
-use Rattle.spec_rack.specs.declared.Answer.the-variants.{Done, Word}
+use Rattle.spec_rack.specs.declared.Answer.the-variants.{Done, Word, Served}
 use Rattle.spec_rack.specs.declared.Reply.{Reply}
 use Rattle.spec_rack.specs.declared.Reply.the-variants.{Accepted, Refused}
 use Rattle.spec_rack.specs.declared.Letter.{Letter}
@@ -24,9 +24,14 @@ letterNumber O = packed 3 0 0 79
 letterNumber S = packed 3 0 0 83
 letterNumber I = packed 3 0 0 73
 
+-- kind 4: whom a deliver served, its component and its block (document 02, No. 1)
+abbrev pub served : ℕ → ℕ → ℕ
+served c b = packed 4 c b 0
+
 abbrev pub packedReply : Reply → ℕ
 packedReply (Accepted Done) = done 0
 packedReply (Accepted (Word w)) = word w
+packedReply (Accepted (Served c b)) = served c b
 packedReply (Refused r) = refused r
 
 abbrev pub packedLetter : Lettered → ℕ

@@ -15,7 +15,7 @@ use Rattle.spec_wire.specs.declared.Step.the-variants.{Load, Store, Send, Deliv
 use Rattle.spec_rack.specs.Claims.{Claims, active, unclaimed, raiseCheck, raised, lowerCheck, lowered}
 use Rattle.spec_rack.specs.declared.Message.{Message}
 use Rattle.spec_rack.specs.declared.Answer.{Answer}
-use Rattle.spec_rack.specs.declared.Answer.the-variants.{Done, Word}
+use Rattle.spec_rack.specs.declared.Answer.the-variants.{Done, Word, Served}
 use Rattle.spec_rack.specs.declared.Reply.{Reply}
 use Rattle.spec_rack.specs.declared.Reply.the-variants.{Accepted, Refused}
 use Rattle.spec_rack.specs.Rack.{Cell, Block, Rack, meshLimit, zeros, blockAt, claimsAt, cellAt, messageAt, held, owners, fresh}
@@ -155,12 +155,12 @@ after r (Raise c b) = withClaims r b (raised (claimsAt r b) c)
 after r (Lower c b) = withClaims r b (lowered (claimsAt r b) c)
 after r (Forward c b) = forwarded r c b
 
--- a load gives the word, every other step only "done"
+-- A load gives the word. A deliver gives the target and the block of its message (document 02, No. 1). Every other step gives only "done".
 unfoldable pub answer : Rack → Step → Answer
 answer r (Load c b w) = Word (getD (cellAt r b c .words) w 0)
 answer r (Store c b w v) = Done
 answer r (Send c b t p o d) = Done
-answer r (Deliver i) = Done
+answer r (Deliver i) = Served (messageAt r i .header .target) (messageAt r i .header .block)
 answer r (Raise c b) = Done
 answer r (Lower c b) = Done
 answer r (Forward c b) = Done

@@ -5,6 +5,8 @@ use spec_wire::Refusal;
 pub enum Answer {
     Done,
     Word(u32),
+    // Whom a deliver served: the target and the block of its message.
+    Served { component: u8, block: u8 },
 }
 
 // The reply to a step or an opening.

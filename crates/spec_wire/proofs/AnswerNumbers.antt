@@ -20,26 +20,43 @@ use Rattle.spec_wire.specs.Results.{packed, done, refused}
 use Rattle.spec_wire.specs.Kinds.{fieldArray, stepInBounds}
 use Rattle.spec_wire.specs.FieldArray.{stepOfTwelve, stepOfArray, readResult, readAfter, writeResult}
 use Rattle.spec_wire.specs.Writer.{placed}
-use Rattle.spec_wire.specs.AnswerNumbers.{kindPart, numberPart, decodedWritten, decodedReading, unpackedWritten, unpackedReading, writtenFits, AnswerNumbers}
+use Rattle.spec_wire.specs.AnswerNumbers.{kindPart, componentPart, blockPart, numberPart, unpacked, decodedWritten, decodedReading, unpackedWritten, unpackedReading, writtenFits, AnswerNumbers}
 use Rattle.spec_wire.proofs.RefusalTable.{number-known, number-back}
 use Rattle.spec_wire.proofs.KindTable.{places-length}
 use Rattle.spec_wire.proofs.FieldArrays.{told-places}
 
--- a kind and a number of 32 bits
-pub packed-kind : (k n : ℕ) → n < 0x1_0000_0000 → kindPart (packed k 0 0 n) ≡ k
-packed-kind k n h = omega arith
+-- the parts of a packed number, each within its bits
+module _ (k c b n : ℕ) (in8 : c < 0x100) (in16 : b < 0x1_0000) (in32 : n < 0x1_0000_0000) where
+  pub packed-kind : kindPart (packed k c b n) ≡ k
+  packed-kind = omega arith
 
-pub packed-number : (k n : ℕ) → n < 0x1_0000_0000 → numberPart (packed k 0 0 n) ≡ n
-packed-number k n h = omega arith
+  pub packed-component : componentPart (packed k c b n) ≡ c
+  packed-component = omega arith
+
+  pub packed-block : blockPart (packed k c b n) ≡ b
+  packed-block = omega arith
+
+  pub packed-number : numberPart (packed k c b n) ≡ n
+  packed-number = omega arith
+
+  pub parts-back : unpacked (packed k c b n) ≡ (k, c, b, n)
+  parts-back = λ i. (packed-kind i, packed-component i, packed-block i, packed-number i)
+
+-- of a kind and a number alone
+pub plain-kind : (k n : ℕ) → n < 0x1_0000_0000 → kindPart (packed k 0 0 n) ≡ k
+plain-kind k n h = packed-kind k 0 0 n (omega arith) (omega arith) h
+
+pub plain-number : (k n : ℕ) → n < 0x1_0000_0000 → numberPart (packed k 0 0 n) ≡ n
+plain-number k n h = packed-number k 0 0 n (omega arith) (omega arith) h
 
 refusal-small : (r : Refusal) → number r < 0x1_0000_0000
 refusal-small r = omega (arith, number-known r)
 
 pub refusal-kind : (r : Refusal) → kindPart (refused r) ≡ 1
-refusal-kind r = packed-kind 1 (number r) (refusal-small r)
+refusal-kind r = plain-kind 1 (number r) (refusal-small r)
 
 pub refusal-number : (r : Refusal) → numberPart (refused r) ≡ number r
-refusal-number r = packed-number 1 (number r) (refusal-small r)
+refusal-number r = plain-number 1 (number r) (refusal-small r)
 
 -- a refusal's number tells it
 pub refusal-told : (r : Refusal) → numbered (numberPart (refused r)) ≡ r
@@ -67,7 +84,7 @@ refused-back r out = ap (λ (k : ℕ). decodedReading k (numberPart (refused r))
 pub written-back : (w : Written) → writtenFits w ≡ true → unpackedWritten (writeResult w) ≡ w
 written-back (Count n) h =
     let small : n < 0x1_0000_0000 = ltb-true n 0x1_0000_0000 h in
-    ap (λ (k : ℕ). decodedWritten k (numberPart (done n))) (packed-kind 0 n small) ∙ ap Count (packed-number 0 n small)
+    ap (λ (k : ℕ). decodedWritten k (numberPart (done n))) (plain-kind 0 n small) ∙ ap Count (plain-number 0 n small)
 written-back (NotWritten r) h = ap (λ (k : ℕ). decodedWritten k (numberPart (refused r))) (refusal-kind r) ∙ ap NotWritten (refusal-told r)
 
 pub answer-numbers : AnswerNumbers
@@ -79,6 +96,7 @@ answer-numbers =
       written-back = written-back;
       step-back = step-back;
       refused-back = refused-back;
+      parts-back = parts-back;
       parts = refl;
       count-27 = refl;
       written-20 = refl;

@@ -10,7 +10,6 @@ use Rattle.spec_wire.specs.declared.Step.{Step}
 use Rattle.spec_wire.specs.declared.Step.the-variants.{Load}
 use Rattle.spec_base.specs.Number.{Bytes}
 use Rattle.spec_rack.specs.declared.Answer.{Answer}
-use Rattle.spec_rack.specs.declared.Answer.the-variants.{Done}
 use Rattle.spec_rack.specs.declared.Reply.{Reply}
 use Rattle.spec_rack.specs.declared.Reply.the-variants.{Accepted, Refused}
 use Rattle.spec_rack.specs.Rules.{check, answer, after, rules, replyOf}
@@ -31,21 +30,24 @@ module _ (s : List ℕ) (t : Step) where
   unfolding rules
   accepted-is e d = rw (sym e) (ap Accepted d)
 
+  -- what is written where the check passes
+  pub written-is : (s₁ : List ℕ) → check (get s) t ≡ Pass → s₁ ≡ put (after (get s) t) s → s₁ ≡ bufferAfter s t
+  unfolding rules
+  written-is s₁ e h = rw e h
+
   -- a verdict that passes
   pub passes : (k : Check) {p : Bool} → k ≡ check (get s) t → p ≡ isPass k → p ≡ true → check (get s) t ≡ Pass
   passes Pass e f g = sym e
   passes (Refuse n) e f g = cc
 
-  -- the two ends of a step that gives only "done"
-  module _ (done : Done ≡ answer (get s) t) where
-    pub made : (s₁ : List ℕ) → check (get s) t ≡ Pass → s₁ ≡ put (after (get s) t) s → (Accepted Done ≡ replyToStep s t) × (s₁ ≡ bufferAfter s t)
-    unfolding rules
-    made s₁ e h = (accepted-is (sym e) done, rw e h)
+  -- the two ends of a step: it is made, or refused
+  pub made : {a : Answer} → a ≡ answer (get s) t → (s₁ : List ℕ) → check (get s) t ≡ Pass → s₁ ≡ put (after (get s) t) s → (Accepted a ≡ replyToStep s t) × (s₁ ≡ bufferAfter s t)
+  made given s₁ e h = (accepted-is (sym e) given, written-is s₁ e h)
 
-    pub kept : (k : Check) {p : Bool} {r : Reply} → k ≡ check (get s) t → p ≡ isPass k → p ≡ false → r ≡ replyOf k → (r ≡ replyToStep s t) × (s ≡ bufferAfter s t)
-    unfolding rules
-    kept Pass e f g h = (cc, cc)
-    kept (Refuse n) e f g h = (h ∙ refused-is e, rw (sym e))
+  pub kept : (k : Check) {p : Bool} {r : Reply} → k ≡ check (get s) t → p ≡ isPass k → p ≡ false → r ≡ replyOf k → (r ≡ replyToStep s t) × (s ≡ bufferAfter s t)
+  unfolding rules
+  kept Pass e f g h = (cc, cc)
+  kept (Refuse n) e f g h = (h ∙ refused-is e, rw (sym e))
 
 -- a load writes nothing, which is to write the rack that is there
 pub load-leaves : (s : List ℕ) → Bytes s → InLayout s → (c b w : ℕ) → s ≡ bufferAfter s (Load c b w)

@@ -13,9 +13,12 @@ use Rattle.spec_wire.specs.declared.Check.the-variants.{Pass}
 use Rattle.spec_wire.specs.declared.Step.the-variants.{Deliver}
 use Rattle.spec_rack.specs.declared.MessageHeader.{MessageHeader}
 use Rattle.spec_rack.specs.declared.Message.{Message}
+use Rattle.spec_rack.specs.declared.Answer.the-variants.{Served}
+use Rattle.spec_rack.specs.declared.Reply.the-variants.{Accepted}
 use Rattle.spec_rack.specs.Rack.{Cell, Rack, cellAt, messageAt}
-use Rattle.spec_rack.specs.Rules.{withCell, withTokens, delivered, check}
+use Rattle.spec_rack.specs.Rules.{withCell, withTokens, delivered, check, answer}
 use Rattle.spec_rack.specs.RecordLayout.{get, put, messagesIn}
+use Rattle.spec_rack.specs.Entries.{replyToStep}
 use Rattle.spec_rack.proofs.SoundnessFacts.{Sound}
 use Rattle.spec_rack.proofs.BlockInvariant.{message-sound, cell-few, message-few}
 use Rattle.spec_rack.proofs.LayoutParts.{WordsFit, CellFits, MessageFits}
@@ -27,6 +30,7 @@ use Rattle.record.specs.Changes.{TokenStateOf, withTokenState, withWords, repla
 use Rattle.record.proofs.Sequencing.{message-fits, cell-fits}
 use Rattle.record.proofs.MeshBytes.{cell-of-state, fits, cell-read, cell-in-cell, cell-there, cell-cell, cell-mesh}
 use Rattle.step_checks.proofs.CheckFacts.{deliver-passed}
+use Rattle.step_checks.proofs.StepOutcome.{accepted-is}
 use Rattle.step_deliver.specs.Filling.{CanFill}
 
 -- ---- before anything is changed
@@ -53,6 +57,12 @@ can-fill s i h pre e =
           };
       sender = omega (arith, boards-is s, known .sender, ap (λ (k : MessageHeader). k .sender) e);
     }
+
+-- the reply is what the header says
+pub served-is : (s : List ℕ) (i : ℕ) (h : MessageHeader) → SoundRecord s × (check (get s) (Deliver i) ≡ Pass) → h ≡ messageAt (get s) i .header
+    → Accepted (Served (h .target) (h .block)) ≡ replyToStep s (Deliver i)
+unfolding answer
+served-is s i h pre e = accepted-is s (Deliver i) (sym (pre .1)) (ap (λ (k : MessageHeader). Served (k .target) (k .block)) e)
 
 -- ---- the target
 

@@ -2,7 +2,7 @@
 ghost use mathlib.Core.Path.{_≡_};
 ghost use Rattle.spec_wire.specs.declared.Check.the-variants.{Pass};
 ghost use Rattle.spec_rack.specs.Rack.{cellAt, messageAt};
-ghost use Rattle.spec_rack.specs.Rules.{withTokens, check, after};
+ghost use Rattle.spec_rack.specs.Rules.{withTokens, check};
 ghost use Rattle.spec_rack.specs.RecordLayout.{get, put};
 ghost use Rattle.record.specs.Needs.{SoundRecord};
 ghost use Rattle.spec_rack.specs.Entries.{replyToStep, bufferAfter};
@@ -32,24 +32,30 @@ fn fill_target(rec: &mut [u8], position: u8, header: MessageHeader)
     record::cells::set_token_state(rec, block, target, state);
 }
 
-// Fills the target, then takes the message out of the mesh: the removal moves other messages over its words.
-fn deliver_message(rec: &mut [u8], position: u8)
+// Fills the target, then takes the message out of the mesh: the removal moves other messages over its words. The reply is of the message that was there.
+fn deliver_message(rec: &mut [u8], position: u8) -> Reply
     requires { ⌜ SoundRecord (now rec) × (check (get (now rec)) (Step.Deliver position) ≡ Pass) ⌝ }
-    ensures { λ r. ⌜ now (rec .exit) ≡ put (after (get (now (rec .entry))) (Step.Deliver position)) (now (rec .entry)) ⌝ }
+    ensures reply { λ r. ⌜ r ≡ replyToStep (now (rec .entry)) (Step.Deliver position) ⌝ }
+    ensures buffer { λ r. ⌜ now (rec .exit) ≡ bufferAfter (now (rec .entry)) (Step.Deliver position) ⌝ }
 {
     let header = record_mesh::header_at(rec, position);
     fill_target(rec, position, header);
     record_mesh::remove(rec, position);
+    Reply::Accepted(Answer::Served {
+        component: header.target,
+        block: header.block,
+    })
 }
 
+// With both replies as arms of one `if` the compiler packs each where it is made.
 pub fn deliver(rec: &mut [u8], position: u8) -> Reply
     requires { ⌜ SoundRecord (now rec) ⌝ }
     ensures reply { λ r. ⌜ r ≡ replyToStep (now (rec .entry)) (Step.Deliver position) ⌝ }
     ensures buffer { λ r. ⌜ now (rec .exit) ≡ bufferAfter (now (rec .entry)) (Step.Deliver position) ⌝ }
 {
     if rec[MESSAGE_COUNT_OFFSET] <= position {
-        return Reply::Refused(Refusal::NoMessage);
+        Reply::Refused(Refusal::NoMessage)
+    } else {
+        deliver_message(rec, position)
     }
-    deliver_message(rec, position);
-    Reply::Accepted(Answer::Done)
 }

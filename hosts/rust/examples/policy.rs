@@ -86,11 +86,11 @@ impl Turns<'_> {
         self.rack.view()
     }
 
-    fn step(&mut self, step: Step) -> Result<(), Refusal> {
+    fn step(&mut self, step: Step) -> Result<Reply, Refusal> {
         self.steps += 1;
         let reply = self.rack.step(&step)?;
         self.memory.take(step, reply);
-        Ok(())
+        Ok(reply)
     }
 
     /// Raises a claim, if the board may have one now.
@@ -98,19 +98,38 @@ impl Turns<'_> {
         match self.step(Step::Raise { component, block }) {
             Err(Refusal::Waiting) => self.waiting += 1,
             Err(Refusal::Barred) => self.barred += 1,
-            other => return other,
+            other => return other.map(|_| ()),
         }
         Ok(())
     }
 
-    /// Delivers all messages, in any order: the mesh keeps none.
+    fn in_flight(&self) -> Result<u32, Refusal> {
+        Ok(self.view()?.messages().len() as u32)
+    }
+
+    /// Delivers a message, any of them: the mesh keeps no order. The reply says whom it served.
+    /// Refused where nothing is in flight.
+    fn deliver(&mut self, dice: &mut Dice) -> Result<Reply, Refusal> {
+        let position = dice.draw(self.in_flight()?.max(1));
+        self.step(Step::Deliver { position })
+    }
+
     fn deliver_all(&mut self, dice: &mut Dice) -> Result<(), Refusal> {
+        while self.in_flight()? > 0 {
+            self.deliver(dice)?;
+        }
+        Ok(())
+    }
+
+    /// Delivers messages until one of this block arrives, and gives the component that it served.
+    fn deliver_block(&mut self, dice: &mut Dice, block: u32) -> Result<u32, Refusal> {
         loop {
-            let in_flight = self.view()?.messages().len() as u32;
-            if in_flight == 0 {
-                return Ok(());
+            match self.deliver(dice)? {
+                Reply::Served { component, block: served } if served == block => {
+                    return Ok(component);
+                }
+                _ => {}
             }
-            self.step(Step::Deliver { position: dice.draw(in_flight) })?;
         }
     }
 
@@ -152,29 +171,28 @@ impl Turns<'_> {
         Ok(())
     }
 
-    /// A board reads an unclaimed block: a holder with data sends it a token with the words. Some
-    /// messages are left in flight for later.
+    /// A board reads an unclaimed block. Every token here travels with the words, so who is served
+    /// with the block can read it. Messages that the reader need not wait for stay in flight.
     fn read_turn(&mut self, dice: &mut Dice, block: u32) -> Result<(), Refusal> {
         let reader = 1 + dice.draw(self.view()?.boards());
         if !self.is_valid(reader, block)? {
-            if self.source(reader, block)?.is_none() {
-                self.deliver_all(dice)?;
-            }
-            // The deliveries may have served the reader.
-            if !self.is_valid(reader, block)? {
-                if let Some((component, plain)) = self.source(reader, block)? {
-                    let plain = plain.min(1);
-                    let owner = plain == 0;
-                    let (target, data) = (reader, true);
-                    self.step(Step::Send { component, block, target, plain, owner, data })?;
+            // Without a source all tokens of the block are in flight.
+            let component = match self.source(reader, block)? {
+                Some(component) => component,
+                None => self.deliver_block(dice, block)?,
+            };
+            if component != reader {
+                let plain = self.plain(component, block)?.min(1);
+                let owner = plain == 0;
+                let (target, data) = (reader, true);
+                self.step(Step::Send { component, block, target, plain, owner, data })?;
+                // Some readers do not wait: their message stays in flight.
+                if self.in_flight()? < 16 && dice.draw(3) == 0 {
+                    return Ok(());
                 }
+                while self.deliver_block(dice, block)? != reader {}
             }
         }
-        let in_flight = self.view()?.messages().len();
-        if in_flight > 0 && in_flight < 16 && dice.draw(3) == 0 {
-            return Ok(());
-        }
-        self.deliver_all(dice)?;
         for _ in 0..=dice.draw(3) {
             self.step(Step::Load { component: reader, block, word: dice.draw(8) })?;
         }
@@ -185,8 +203,12 @@ impl Turns<'_> {
         Ok(self.view()?.cell(component, block).is_some_and(|cell| cell.valid))
     }
 
-    /// The component other than the reader, with data, that has the most plain tokens, and how many.
-    fn source(&self, reader: u32, block: u32) -> Result<Option<(u32, u32)>, Refusal> {
+    fn plain(&self, component: u32, block: u32) -> Result<u32, Refusal> {
+        Ok(self.view()?.cell(component, block).map_or(0, |cell| cell.plain))
+    }
+
+    /// The component other than the reader, with data, that has the most plain tokens.
+    fn source(&self, reader: u32, block: u32) -> Result<Option<u32>, Refusal> {
         let view = self.view()?;
         let mut best: Option<(u32, u32)> = None;
         for component in (0..=view.boards()).filter(|&component| component != reader) {
@@ -197,7 +219,7 @@ impl Turns<'_> {
                 _ => {}
             }
         }
-        Ok(best)
+        Ok(best.map(|(component, _)| component))
     }
 }
 
@@ -357,7 +379,7 @@ fn wrong_totals(view: &View) -> u32 {
 
 fn play(seed: u64) -> Result<u32, Refusal> {
     let mut wrong = 0;
-    for [boards, blocks, tokens] in [[1, 1, 1], [4, 6, 5], [15, 32, 15], [15, 4, 64]] {
+    for [boards, blocks, tokens] in [[1, 1, 1], [2, 1, 2], [4, 6, 5], [15, 32, 15], [15, 4, 64]] {
         wrong += take_turns(seed, boards, blocks, tokens)?;
     }
     wrong += be_foolish(seed)?;

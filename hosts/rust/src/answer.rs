@@ -1,13 +1,14 @@
 use crate::Refusal;
 use std::fmt;
 
-/// What an accepted step gives.
+/// What an accepted step gives: a load its word, a deliver whom it served, any other step `Done`.
 ///
 /// ```
 /// use hyaloneth::Reply;
 ///
 /// assert_eq!(Reply::Done.to_string(), "done");
 /// assert_eq!(Reply::Word(42).to_string(), "word 0x0000002a");
+/// assert_eq!(Reply::Served { component: 1, block: 0 }.to_string(), "served 1 block 0");
 /// ```
 #[derive(Clone, Copy, Debug, PartialEq, Eq, Hash)]
 pub enum Reply {
@@ -15,6 +16,25 @@ pub enum Reply {
     Done,
     /// The word of an answered load.
     Word(u32),
+    /// Whom a deliver served. Comparing with it tells whether a board got its block:
+    ///
+    /// ```
+    /// use hyaloneth::{Record, Refusal, Reply, Step};
+    ///
+    /// let mut buffer = [0; Record::LONGEST];
+    /// let mut rack = Record::open(&mut buffer, 2, 2, 3)?;
+    /// rack.step(&Step::Raise { component: 2, block: 1 })?;
+    /// rack.step(&Step::Forward { component: 0, block: 1 })?;
+    /// let reply = rack.step(&Step::Deliver { position: 0 })?;
+    /// assert_eq!(reply, Reply::Served { component: 2, block: 1 });
+    /// # Ok::<(), Refusal>(())
+    /// ```
+    Served {
+        /// The target of its message, 0 for home.
+        component: u32,
+        /// The block of its message.
+        block: u32,
+    },
 }
 
 impl fmt::Display for Reply {
@@ -22,6 +42,7 @@ impl fmt::Display for Reply {
         match self {
             Reply::Done => f.write_str("done"),
             Reply::Word(word) => write!(f, "word {word:#010x}"),
+            Reply::Served { component, block } => write!(f, "served {component} block {block}"),
         }
     }
 }
@@ -82,6 +103,11 @@ impl Answer {
         match unpack(self.0)? {
             (DONE, _) => Ok(Reply::Done),
             (WORD_GIVEN, word) => Ok(Reply::Word(word)),
+            // The component has bits 48 to 55, the block bits 32 to 47.
+            (SERVED, _) => Ok(Reply::Served {
+                component: u32::from((self.0 >> 48) as u8),
+                block: u32::from((self.0 >> 32) as u16),
+            }),
             _ => unknown(self.0),
         }
     }
@@ -115,6 +141,7 @@ const DONE: u64 = 0;
 const REFUSED: u64 = 1;
 const WORD_GIVEN: u64 = 2;
 const LETTER_GIVEN: u64 = 3;
+const SERVED: u64 = 4;
 
 /// Takes a result apart: bits 56 to 63 its kind, bits 0 to 31 its number.
 fn unpack(result: u64) -> Result<(u64, u32), Refusal> {
@@ -128,4 +155,75 @@ fn unpack(result: u64) -> Result<(u64, u32), Refusal> {
 /// Only archives of another edition than the headers give such a result.
 fn unknown(result: u64) -> ! {
     panic!("the library's result {result:#018x} is not in include/hyaloneth.h")
+}
+
+#[cfg(test)]
+mod tests {
+    use super::*;
+    use crate::script::{assemble, records};
+    use crate::{ffi, Record};
+
+    fn served(component: u32, block: u32) -> Result<Reply, Refusal> {
+        Ok(Reply::Served { component, block })
+    }
+
+    #[test]
+    fn packed_numbers_are_replies() {
+        for (packed, reply) in [
+            (0, Ok(Reply::Done)),
+            (0x0100_0000_0000_000e, Err(Refusal::NoMessage)),
+            (0x0200_0000_0000_002a, Ok(Reply::Word(42))),
+            (0x0400_0000_0000_0000, served(0, 0)),
+            (0x0401_0000_0000_0000, served(1, 0)),
+            (0x0403_000a_0000_0000, served(3, 10)),
+            (0x040f_001f_0000_0000, served(15, 31)),
+            (0x04ff_ffff_0000_0000, served(255, 65_535)),
+        ] {
+            assert_eq!(Answer(packed).get(), reply, "{packed:#018x}");
+        }
+    }
+
+    #[test]
+    #[should_panic = "the library's result 0x0500000000000000 is not in include/hyaloneth.h"]
+    fn an_unknown_kind_is_no_reply() {
+        let _ = Answer(0x0500_0000_0000_0000).get();
+    }
+
+    /// A script runs to these packed numbers, step by step and as a list.
+    fn packs(script: &str, want: &[u64]) {
+        let input = assemble(script).unwrap();
+        let (sizes, list) = input.split_at(3);
+        let open = || {
+            let mut buffer = vec![0; Record::LONGEST];
+            let [boards, blocks, tokens] = [sizes[0], sizes[1], sizes[2]].map(u32::from);
+            Record::open(&mut buffer, boards, blocks, tokens).unwrap();
+            buffer
+        };
+        let mut buffer = open();
+        let singly: Vec<u64> = records(list)
+            // SAFETY: both pointers come from slices, with their lengths; the buffer is borrowed
+            // alone.
+            .map(|step| unsafe {
+                ffi::hyl_step(buffer.as_mut_ptr(), buffer.len(), step.as_ptr(), step.len())
+            })
+            .collect();
+        assert_eq!(singly, want);
+        let mut answers = vec![Answer(u64::MAX); want.len() + 1];
+        let made = Record::over(&mut open()).run_some(list, &mut 0, &mut answers);
+        assert_eq!(made, want.len());
+        let stored: Vec<u64> = answers[..made].iter().map(|answer| answer.0).collect();
+        assert_eq!(stored, want);
+    }
+
+    #[test]
+    fn the_engine_packs_whom_a_deliver_served() {
+        packs(
+            include_str!("../../traces/served.trace"),
+            &[0, 0, 0x0403_000a_0000_0000, 0x040f_001f_0000_0000, 0x0100_0000_0000_000e],
+        );
+        packs(
+            include_str!("../../traces/served_home.trace"),
+            &[0, 0x0401_0000_0000_0000, 0, 0x0400_0000_0000_0000],
+        );
+    }
 }

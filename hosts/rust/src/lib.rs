@@ -3,9 +3,10 @@
 //!
 //! The engine keeps the memory of a rack's boards coherent by Token Coherence. All its state is the
 //! record, bytes at the front of a buffer that the host lends: [`Record`]. A policy hands in
-//! [`Step`]s and gets a [`Reply`] or a [`Refusal`] for each. A refused call changes nothing. The
-//! engine looks at everything anew at each call, so no input can bring it out of step: a damaged
-//! record, a torn step and a number such as 258 are refused.
+//! [`Step`]s and gets a [`Reply`] or a [`Refusal`] for each: the word of a load, whom a deliver
+//! served. A refused call changes nothing. The engine looks at everything anew at each call, so no
+//! input can bring it out of step: a damaged record, a torn step and a number such as 258 are
+//! refused.
 //!
 //! [`View`] reads the figures of a record, and [`script`] is the readable form of step records that
 //! the program `hyaloneth-trace` speaks.
@@ -20,7 +21,8 @@
 //!
 //! // Board 1 gets all tokens with the data, so it may store.
 //! rack.step(&Step::Send { component: 0, block: 0, target: 1, plain: 2, owner: true, data: true })?;
-//! rack.step(&Step::Deliver { position: 0 })?;
+//! let reply = rack.step(&Step::Deliver { position: 0 })?;
+//! assert_eq!(reply, Reply::Served { component: 1, block: 0 });
 //! rack.step(&Step::Store { component: 1, block: 0, word: 0, value: 42 })?;
 //! assert_eq!(rack.step(&Step::Load { component: 1, block: 0, word: 0 }), Ok(Reply::Word(42)));
 //! assert_eq!(rack.letter(1, 0), Ok(Letter::Modified));

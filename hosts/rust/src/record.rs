@@ -81,7 +81,8 @@ impl<'a> Record<'a> {
         Record { buffer }
     }
 
-    /// Makes one step.
+    /// Makes one step: [`Reply::Word`] for a load, [`Reply::Served`] for a deliver, [`Reply::Done`]
+    /// for any other.
     ///
     /// Refused with [`Refusal::Torn`] where a number is outside its field, then as
     /// [`Record::step_bytes`] is.
@@ -121,13 +122,17 @@ impl<'a> Record<'a> {
     /// use hyaloneth::{Record, Refusal, Reply, Step};
     ///
     /// let mut list = Step::Raise { component: 1, block: 0 }.to_bytes()?;
+    /// list.extend(Step::Forward { component: 0, block: 0 }.to_bytes()?);
+    /// list.extend(Step::Deliver { position: 0 }.to_bytes()?);
     /// list.extend(Step::Lower { component: 2, block: 0 }.to_bytes()?);
     ///
     /// let mut buffer = [0; Record::LONGEST];
     /// let mut rack = Record::open(&mut buffer, 2, 1, 3)?;
     /// let mut replies = Vec::new();
     /// rack.run(&list, |reply| replies.push(reply));
-    /// assert_eq!(replies, [Ok(Reply::Done), Err(Refusal::NotWaiting)]);
+    /// assert_eq!(replies[..2], [Ok(Reply::Done), Ok(Reply::Done)]);
+    /// assert_eq!(replies[2], Ok(Reply::Served { component: 1, block: 0 }));
+    /// assert_eq!(replies[3], Err(Refusal::NotWaiting));
     /// # Ok::<(), Refusal>(())
     /// ```
     pub fn run(&mut self, list: &[u8], mut each: impl FnMut(Result<Reply, Refusal>)) {

@@ -25,7 +25,7 @@
 //! # Ok::<(), hyaloneth::script::ScriptError>(())
 //! ```
 
-use crate::Step;
+use crate::{Refusal, Reply, Step};
 use std::error::Error;
 use std::fmt;
 
@@ -146,6 +146,26 @@ pub fn step_lines(record: &[u8]) -> String {
     match Step::from_bytes(record) {
         Ok(step) => step.to_string(),
         Err(_) => bytes_lines(record),
+    }
+}
+
+/// A reply or refusal as program rackrun prints it.
+///
+/// ```
+/// use hyaloneth::script::reply_text;
+/// use hyaloneth::{Refusal, Reply};
+///
+/// assert_eq!(reply_text(Ok(Reply::Done)), "ok");
+/// assert_eq!(reply_text(Ok(Reply::Word(42))), "v0000002a");
+/// assert_eq!(reply_text(Ok(Reply::Served { component: 3, block: 10 })), "d3.10");
+/// assert_eq!(reply_text(Err(Refusal::NoToken)), "r5");
+/// ```
+pub fn reply_text(reply: Result<Reply, Refusal>) -> String {
+    match reply {
+        Ok(Reply::Done) => "ok".into(),
+        Ok(Reply::Word(word)) => format!("v{word:08x}"),
+        Ok(Reply::Served { component, block }) => format!("d{component}.{block}"),
+        Err(refusal) => format!("r{}", refusal.number()),
     }
 }
 

@@ -55,7 +55,8 @@ pub enum Step {
         /// Whether the words go.
         data: bool,
     },
-    /// Takes a message out of the mesh and gives it to its target.
+    /// Takes a message out of the mesh and gives it to its target. The reply says which, and which
+    /// block.
     Deliver {
         /// The message's place in the mesh, 0 the oldest.
         position: u32,

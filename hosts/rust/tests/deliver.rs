@@ -42,14 +42,17 @@ fn words_offset(component: usize, of: usize) -> usize {
 struct Lent {
     given: Vec<u8>,
     want: Vec<u8>,
+    /// The steps so far, and what each gave.
     list: Vec<u8>,
+    replies: Vec<Reply>,
 }
 
 impl Lent {
     /// N = 2, B = 2, T = 3, in a buffer with bytes of a pattern; 100 of them are behind the record.
     fn open() -> Lent {
         let pattern: Vec<u8> = (0..block_offset(2) + 100).map(|i| (i % 251) as u8).collect();
-        let mut lent = Lent { given: pattern.clone(), want: pattern, list: Vec::new() };
+        let mut lent =
+            Lent { given: pattern.clone(), want: pattern, list: Vec::new(), replies: Vec::new() };
         Record::open(&mut lent.given, 2, 2, 3).unwrap();
         lent.put(0, &[2, 2, 3, 0]);
         for of in [0, 1] {
@@ -71,13 +74,22 @@ impl Lent {
         self.want[at..at + bytes.len()].copy_from_slice(bytes);
     }
 
-    /// The step is done and changes these bytes of the buffer, and no other.
+    /// The step is accepted and changes these bytes of the buffer, and no other. A deliver names
+    /// the target and the block that stand in its message.
     fn step(&mut self, step: Step, changes: &[(usize, &[u8])]) {
-        assert_eq!(Record::over(&mut self.given).step(&step), Ok(Reply::Done), "{step}");
+        let reply = match step {
+            Deliver { position } => {
+                let header = &self.want[message_offset(position as usize)..][..HEADER];
+                Reply::Served { component: header[1].into(), block: header[2].into() }
+            }
+            _ => Reply::Done,
+        };
+        assert_eq!(Record::over(&mut self.given).step(&step), Ok(reply), "{step}");
         for (at, bytes) in changes {
             self.put(*at, bytes);
         }
         self.list.extend(step.to_bytes().unwrap());
+        self.replies.push(reply);
         self.compare(&step.to_string());
     }
 
@@ -213,11 +225,8 @@ fn without_data_the_words_stay() {
 fn a_run_changes_the_same_bytes() {
     let single = delivered();
     let mut whole = Lent::open();
-    let mut count = 0;
-    Record::over(&mut whole.given).run(&single.list, |reply| {
-        assert_eq!(reply, Ok(Reply::Done));
-        count += 1;
-    });
-    assert_eq!(count, 7);
+    Record::over(&mut whole.given).run(&single.list, |reply| whole.replies.push(reply.unwrap()));
+    assert_eq!(whole.replies, single.replies);
+    assert_eq!(whole.replies.len(), 7);
     assert_eq!(whole.given, single.want);
 }

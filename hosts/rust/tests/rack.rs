@@ -1,5 +1,6 @@
 //! The examples of document 01 and the edges of the wrapper, over the proved archives.
 
+use hyaloneth::script::reply_text;
 use hyaloneth::Refusal::*;
 use hyaloneth::Step::*;
 use hyaloneth::{Answer, Letter, Record, Refusal, Reply, Step, View};
@@ -28,6 +29,11 @@ impl Rack {
 
     fn done(&mut self, step: Step) {
         assert_eq!(self.step(step), Ok(Reply::Done), "{step}");
+    }
+
+    /// The deliver is accepted and has served this component with block 0.
+    fn served(&mut self, deliver: Step, component: u32) {
+        assert_eq!(self.step(deliver), Ok(Reply::Served { component, block: 0 }), "{deliver}");
     }
 
     /// The step is refused with this, and no byte of the buffer changes.
@@ -72,7 +78,7 @@ const OLDEST: Step = Deliver { position: 0 };
 fn w2() -> Rack {
     let mut rack = Rack::new();
     rack.done(send(0, 1, 2, true, true));
-    rack.done(OLDEST);
+    rack.served(OLDEST, 1);
     rack
 }
 
@@ -88,7 +94,7 @@ fn w2_to_w4_stores_need_all_tokens_and_loads_data() {
     assert_eq!(rack.letter(1), Ok(Letter::Modified));
 
     rack.done(send(1, 2, 1, false, false));
-    rack.done(OLDEST);
+    rack.served(OLDEST, 2);
     rack.refused(load(2), NoData);
     assert_eq!(rack.letter(2), Ok(Letter::Invalid));
 
@@ -114,7 +120,7 @@ fn w8_the_mesh_carries_64_messages() {
     rack.done(send(0, 1, 0, true, true));
     let other = Send { component: 0, block: 1, target: 1, plain: 1, owner: false, data: false };
     rack.refused(other, MeshFull);
-    rack.done(OLDEST);
+    rack.served(OLDEST, 1);
     rack.done(other);
 }
 
@@ -161,14 +167,9 @@ fn the_listing_of_program_rackrun() {
     let mut rack = Rack::new();
     let mut lines = vec!["0 ok".to_string()];
     rack.record().run(&list, |reply| {
-        let reply = match reply {
-            Ok(Reply::Done) => "ok".to_string(),
-            Ok(Reply::Word(word)) => format!("v{word:08x}"),
-            Err(refusal) => format!("r{}", refusal.number()),
-        };
-        lines.push(format!("{} {reply}", lines.len()));
+        lines.push(format!("{} {}", lines.len(), reply_text(reply)));
     });
-    assert_eq!(lines, ["0 ok", "1 ok", "2 ok", "3 ok", "4 v0000002a", "5 r5"]);
+    assert_eq!(lines, ["0 ok", "1 ok", "2 d1.0", "3 ok", "4 v0000002a", "5 r5"]);
 }
 
 #[test]
@@ -195,12 +196,12 @@ fn the_other_refusals() {
     rack.refused(send(0, 1, 1, false, false), Claimed);
     rack.done(forward(0));
     rack.refused(Deliver { position: 1 }, NoMessage);
-    rack.done(OLDEST);
+    rack.served(OLDEST, 1);
     rack.refused(send(1, 2, 1, false, false), Claimed);
 
     let mut rack = w2();
     rack.done(send(1, 2, 1, false, false));
-    rack.done(OLDEST);
+    rack.served(OLDEST, 2);
     rack.refused(send(2, 1, 1, false, true), NoData);
 }
 
@@ -211,7 +212,7 @@ fn a_delivery_keeps_the_order_of_the_rest() {
         rack.done(send(0, 1, plain, false, false));
     }
     for (position, rest) in [(1, &[1, 3, 4, 5][..]), (3, &[1, 3, 4]), (0, &[3, 4])] {
-        rack.done(Deliver { position });
+        rack.served(Deliver { position }, 1);
         let record = rack.record();
         assert!(record.view().unwrap().messages().map(|m| m.plain).eq(rest.iter().copied()));
     }
@@ -364,7 +365,7 @@ fn the_view_has_the_figures_of_a_rack() {
     let mut rack = Rack::of(3, 2, 9);
     let block = 1;
     rack.done(Send { component: 0, block, target: 3, plain: 8, owner: true, data: true });
-    rack.done(OLDEST);
+    assert_eq!(rack.step(OLDEST), Ok(Reply::Served { component: 3, block }));
     rack.done(Store { component: 3, block, word: 7, value: 0x0102_0304 });
     rack.done(Send { component: 3, block, target: 2, plain: 5, owner: false, data: true });
     let record = rack.record();

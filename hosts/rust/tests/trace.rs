@@ -46,18 +46,49 @@ fn scripts_and_bytes_become_each_other() {
     );
 }
 
+/// The script assembles to these bytes, which rackrun answers with these lines.
+fn is_input(script: &str, bytes: &str, lines: &str) {
+    let bytes: Vec<u8> =
+        bytes.split_whitespace().map(|byte| u8::from_str_radix(byte, 16).unwrap()).collect();
+    assert_eq!(printed(&["assemble", "-"], script.as_bytes()), bytes);
+    assert_eq!(printed(&["run", "--rackrun", "-"], &bytes), lines.as_bytes());
+}
+
 #[test]
 fn the_listing_of_document_01() {
-    let script = include_str!("../../traces/listing.trace");
-    let text = "02 01 03 \
-                12 00 18 01 00 01 00 02 00 01 00 05 00 01 01 06 00 01 02 07 00 01 01 08 00 01 01 \
-                13 00 04 09 00 01 00 \
-                11 00 13 01 00 01 01 02 00 01 00 03 00 01 00 04 00 04 00 00 00 2A \
-                10 00 0C 01 00 01 01 02 00 01 00 03 00 01 00 \
-                10 00 0C 01 00 01 02 02 00 01 00 03 00 01 00";
-    let bytes: Vec<u8> =
-        text.split_whitespace().map(|byte| u8::from_str_radix(byte, 16).unwrap()).collect();
-    assert_eq!(printed(&["assemble", "-"], script.as_bytes()), bytes);
+    is_input(
+        include_str!("../../traces/listing.trace"),
+        "02 01 03 \
+         12 00 18 01 00 01 00 02 00 01 00 05 00 01 01 06 00 01 02 07 00 01 01 08 00 01 01 \
+         13 00 04 09 00 01 00 \
+         11 00 13 01 00 01 01 02 00 01 00 03 00 01 00 04 00 04 00 00 00 2A \
+         10 00 0C 01 00 01 01 02 00 01 00 03 00 01 00 \
+         10 00 0C 01 00 01 02 02 00 01 00 03 00 01 00",
+        include_str!("../../../crates/rackrun/stdout"),
+    );
+}
+
+#[test]
+fn a_deliver_says_whom_it_served() {
+    is_input(
+        include_str!("../../traces/served.trace"),
+        "0F 20 0F \
+         12 00 18 01 00 01 00 02 00 01 1F 05 00 01 0F 06 00 01 01 07 00 01 00 08 00 01 00 \
+         12 00 18 01 00 01 00 02 00 01 0A 05 00 01 03 06 00 01 01 07 00 01 00 08 00 01 01 \
+         13 00 04 09 00 01 01 \
+         13 00 04 09 00 01 00 \
+         13 00 04 09 00 01 00",
+        include_str!("../../traces/served.rackrun"),
+    );
+    is_input(
+        include_str!("../../traces/served_home.trace"),
+        "02 01 03 \
+         12 00 18 01 00 01 00 02 00 01 00 05 00 01 01 06 00 01 01 07 00 01 00 08 00 01 00 \
+         13 00 04 09 00 01 00 \
+         12 00 18 01 00 01 01 02 00 01 00 05 00 01 00 06 00 01 01 07 00 01 00 08 00 01 00 \
+         13 00 04 09 00 01 00",
+        include_str!("../../traces/served_home.rackrun"),
+    );
 }
 
 #[test]
@@ -70,6 +101,7 @@ fn scripts_and_bytes_run_alike() {
     assert_eq!(printed(&["run", "-"], SCRIPT), lines.as_bytes());
     assert_eq!(printed(&["run", "-"], BYTES), lines.as_bytes());
     assert_eq!(printed(&["run", "--bytes", "-"], BYTES), lines.as_bytes());
+    assert_eq!(printed(&["run", "--rackrun", "-"], SCRIPT), b"0 ok\n1 r14\n2 r1\n");
 }
 
 #[test]
@@ -81,6 +113,17 @@ fn openings_that_are_refused() {
     assert_eq!(printed(&["run", "--bytes", "-"], b"ab"), short);
     let size = b"0  rack 2 boards 1 block 1 token  refused 19: size\n";
     assert_eq!(printed(&["run", "--show", "-"], &[2, 1, 1]), size);
+    assert_eq!(printed(&["run", "--rackrun", "-"], b""), b"0 r1\n");
+    assert_eq!(printed(&["run", "--rackrun", "-"], &[2, 1, 1, 0x13]), b"0 r19\n");
+}
+
+#[test]
+fn rackrun_reads_no_more_than_65536_bytes() {
+    // 9,361 records end at byte 65,530. Of the next one 6 bytes are read, and of the last none.
+    let mut bytes = vec![2, 1, 3];
+    bytes.extend([0x13, 0, 4, 9, 0, 1, 0].repeat(9_363));
+    let lines = String::from_utf8(printed(&["run", "--rackrun", "-"], &bytes)).unwrap();
+    assert!(lines.ends_with("\n9361 r14\n9362 r1\n"));
 }
 
 #[test]
@@ -109,6 +152,7 @@ fn wrong_command_lines_show_the_usage() {
         &["walk", "-"],
         &["run"],
         &["run", "--shove", "-"],
+        &["run", "--show", "--rackrun", "-"],
         &["assemble"],
         &["disassemble", "a", "b"],
     ] {

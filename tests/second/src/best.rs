@@ -465,14 +465,16 @@ unsafe fn deliver(rec: *mut u8, position: u8) -> u64 {
         return NO_MESSAGE;
     }
     let from = rec.add(message_offset(position.into()));
-    let (target, data) = (*from.add(TARGET), *from.add(DATA));
-    let block = block_at(rec, *from.add(MESSAGE_BLOCK));
+    let (target, b, data) = (*from.add(TARGET), *from.add(MESSAGE_BLOCK), *from.add(DATA));
+    let block = block_at(rec, b);
     let cell = block.add(target.into());
     *cell.add(PLAIN) += *from.add(MESSAGE_PLAIN);
     *cell.add(OWNER) += *from.add(MESSAGE_OWNER);
     *cell.add(VALID) |= data;
     let words = words_at(block, target);
     copy_words(select_unpredictable(data != 0, from.add(MESSAGE_WORDS), words), words);
+    // The target is loaded once more: a register that kept it up to here would be missing in the loop over a list.
+    let served = (4 << 24 | u64::from(from.add(TARGET).read_volatile()) << 16 | u64::from(b)) << 32;
     *rec.add(COUNT) = count - 1;
     // The later messages move up: few of them here, many by the library.
     let later = usize::from(count - 1 - position);
@@ -490,7 +492,7 @@ unsafe fn deliver(rec: *mut u8, position: u8) -> u64 {
             to = next;
         }
     }
-    DONE
+    served
 }
 
 /// The reply to the record at the front of `left` bytes, and its length. With `WHOLE` it must fill them.

@@ -1,5 +1,5 @@
-//! Document 01 a third time, from the document alone: neither the engine, nor the other programs, nor the readings in docs/ were at hand. It keeps
-//! typed values and knows nothing of the record's bytes, so buffers (20) and damaged records (2) are not its matter.
+//! Document 01 a third time, with No. 1 of document 02, from these papers alone: neither the engine, nor the other programs, nor the readings in docs/
+//! were at hand. It keeps typed values and knows nothing of the record's bytes, so buffers (20) and damaged records (2) are not its matter.
 
 use std::collections::BTreeSet;
 
@@ -98,6 +98,27 @@ fn refuse(when: bool, number: u32) -> Result<(), u32> {
     (!when).then_some(()).ok_or(number)
 }
 
+/// "Steps" with No. 1: what an accepted step gives. The cases are kept apart because a word may have any value.
+#[derive(Clone, Copy, Debug, Eq, PartialEq)]
+pub enum Answer {
+    /// Every accepted step but a load and a deliver; an accepted opening reads as this too.
+    Done,
+    /// The word of a load.
+    Word(u32),
+    /// No. 1: whom a deliver served, so that no policy has to look the message up first.
+    Served { component: u32, block: u32 },
+}
+
+/// "Program rackrun" with No. 1: one reply as a line has it after the index and the space. An accepted opening is given as done.
+pub fn text(reply: Result<Answer, u32>) -> String {
+    match reply {
+        Ok(Answer::Done) => "ok".to_string(),
+        Ok(Answer::Word(word)) => format!("v{word:08x}"),
+        Ok(Answer::Served { component, block }) => format!("d{component}.{block}"),
+        Err(number) => format!("r{number}"),
+    }
+}
+
 /// A rack of N boards, B blocks and T tokens a block.
 pub struct Rack {
     boards: u32,
@@ -129,9 +150,9 @@ impl Rack {
         })
     }
 
-    /// Gives the bytes of one step record to the rack: the word of an accepted load, nothing of another accepted step, or the
-    /// refusal's number. A refused step changes nothing.
-    pub fn step(&mut self, bytes: &[u8]) -> Result<Option<u32>, u32> {
+    /// Gives the bytes of one step record to the rack: the word of an accepted load, the component and block that an accepted
+    /// deliver served, done for another accepted step, or the refusal's number. A refused step changes nothing.
+    pub fn step(&mut self, bytes: &[u8]) -> Result<Answer, u32> {
         let (kind, fields) = parse(bytes).ok_or(1u32)?;
         let [_, component, block, word, value, target, plain, owner, data, position] = fields;
         // The order of "First match": 3 and 4 come before what is special to a step. A field the kind lacks is 0 and passes 3.
@@ -145,7 +166,7 @@ impl Rack {
             0x10 => {
                 refuse(cell.held() == 0, 5)?;
                 refuse(!cell.valid, 6)?;
-                return Ok(Some(cell.words[word as usize]));
+                return Ok(Answer::Word(cell.words[word as usize]));
             }
             0x11 => {
                 refuse(cell.held() < self.tokens, 7)?;
@@ -174,6 +195,8 @@ impl Rack {
                 if message.data {
                     (cell.words, cell.valid) = (message.words, true);
                 }
+                // A deliver record names only a position, so component and block are the message's.
+                return Ok(Answer::Served { component: message.target as u32, block: message.block as u32 });
             }
             0x14 => {
                 refuse(claims.waiting.contains(&component), 15)?;
@@ -199,7 +222,7 @@ impl Rack {
                 self.launch((c, b), target, plain, owner, data);
             }
         }
-        Ok(None)
+        Ok(Answer::Done)
     }
 
     /// Refusal 3 of component and block, which the steps and the letter have in common.

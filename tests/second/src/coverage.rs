@@ -1,7 +1,7 @@
 //! What a comparison reached: for each call and kind of step, how often it was accepted and met each refusal; which messages were delivered from
-//! a filled mesh.
+//! a filled mesh, and whom they served.
 
-use crate::model::{Rack, MESH_LIMIT};
+use crate::model::{Message, Rack, HOME, MESH_LIMIT};
 
 pub const KINDS: [&str; 12] =
     ["load", "store", "send", "deliver", "raise", "lower", "forward", "other bytes", "opening", "letter", "reading", "writing"];
@@ -34,10 +34,49 @@ const MIDDLE: usize = 2;
 /// What it brought: with the words that the target has already, a copy that was left out would not be seen.
 const BROUGHT: [&str; 3] = ["no data", "the target's words", "other words"];
 
+/// Whom it served, where an engine that gives something else would be seen: the sender, the target or block of another message (the next one moves
+/// up to its position), the two numbers exchanged, or only some of their digits or bits.
+const SERVED: [&str; 12] = [
+    "another than the sender",
+    "another target than the first's",
+    "another block than the first's",
+    "another target than the next one's",
+    "another block than the next one's",
+    "another target than the last's",
+    "another block than the last's",
+    "component and block of different numbers",
+    "home",
+    "both numbers of two digits",
+    "component 15",
+    "block 31",
+];
+
+/// Which of these a message's target and block are.
+fn served(mesh: &[Message], at: usize) -> [bool; SERVED.len()] {
+    let &Message { sender, target, block, .. } = &mesh[at];
+    let of = |other: Option<&Message>| other.map_or((target, block), |m| (m.target, m.block));
+    let (first, next, last) = (of(mesh.first()), of(mesh.get(at + 1)), of(mesh.last()));
+    [
+        target != sender,
+        target != first.0,
+        block != first.1,
+        target != next.0,
+        block != next.1,
+        target != last.0,
+        block != last.1,
+        target != block,
+        target == HOME,
+        target >= 10 && block >= 10,
+        target == 15,
+        block == 31,
+    ]
+}
+
 /// Deliveries from a filled mesh.
 #[derive(Default)]
 struct Delivered {
     counts: [[u64; BROUGHT.len()]; POSITIONS.len()],
+    served: [u64; SERVED.len()],
     /// The messages in flight at each, added up.
     in_flight: u64,
     /// Those of the middle, with words that neither neighbour has: words from another slot would be seen.
@@ -90,6 +129,9 @@ impl Coverage {
         let delivered = &mut self.delivered;
         delivered.counts[class][brought] += 1;
         delivered.in_flight += count as u64;
+        for (count, is) in delivered.served.iter_mut().zip(served(&rack.mesh, at)) {
+            *count += u64::from(is);
+        }
         if class == MIDDLE && brought == 2 {
             delivered.apart += u64::from([at - 1, at + 1].iter().all(|&beside| rack.mesh[beside].words != message.words));
             delivered.most = delivered.most.max(count);
@@ -111,6 +153,9 @@ impl Coverage {
         self.run_steps += other.run_steps;
         self.letters += other.letters;
         for (mine, theirs) in self.delivered.counts.iter_mut().flatten().zip(other.delivered.counts.iter().flatten()) {
+            *mine += theirs;
+        }
+        for (mine, theirs) in self.delivered.served.iter_mut().zip(other.delivered.served) {
             *mine += theirs;
         }
         self.delivered.in_flight += other.delivered.in_flight;
@@ -163,9 +208,12 @@ impl Delivered {
             println!("{class:>12}: {}", brought.join(", "));
         }
         println!("{:>12}  {} of the middle with words that neither neighbour has", "", self.apart);
+        let served: Vec<String> = SERVED.iter().zip(self.served).map(|(whom, n)| format!("{whom} {n}")).collect();
+        println!("{:>12}: {}", "served", served.join(", "));
     }
 
-    /// A position and what was brought from it that never came together; too few from the middle, or never from the middle of a full mesh.
+    /// A position and what was brought from it that never came together; too few from the middle, or never from the middle of a full mesh; whom
+    /// none served.
     fn gaps(&self) -> Vec<String> {
         let mut gaps = Vec::new();
         for (class, counts) in POSITIONS.iter().zip(&self.counts) {
@@ -181,6 +229,8 @@ impl Delivered {
         if self.most != MESH_LIMIT {
             gaps.push(format!("no delivery of the middle with {MESH_LIMIT} in flight"));
         }
+        let missing = SERVED.iter().zip(self.served).filter(|&(_, count)| count == 0);
+        gaps.extend(missing.map(|(whom, _)| format!("no delivery served {whom}")));
         gaps
     }
 }

@@ -1,9 +1,10 @@
-//! Document 01's examples: the lines W1 to W11 and the input of rackrun, with the results that it states; one more for a forward into a full mesh.
+//! Document 01's examples: the lines W1 to W11 and the input of rackrun, with the results that it states, a deliver's by document 02's No. 1. Beside
+//! them a forward into a full mesh, and delivers that serve home, serve from the middle, and serve components and blocks of two digits.
 
 use crate::calls::unhex;
 use crate::model::{self, Step};
 
-/// A call and its stated result, in rackrun's words (`ok`, `v` and the word, `r` and the refusal) or a letter.
+/// A call and its stated result, in rackrun's words (`ok`, `v` and the word, `d` and whom a deliver served, `r` and the refusal) or a letter.
 pub enum Line {
     Step(Vec<u8>, &'static str),
     Letter(u32, u32, &'static str),
@@ -11,12 +12,29 @@ pub enum Line {
     Target(u8),
 }
 
+/// Examples that rackrun is tried on too.
+pub const LISTING: &str = "listing";
+pub const SERVED_FAR: &str = "served_far";
+pub const SERVED_HOME: &str = "served_home";
+pub const SERVED_MIDDLE: &str = "served_middle";
+
 pub struct Example {
     pub name: &'static str,
     pub sizes: (u32, u32, u32),
     pub opening: &'static str,
     pub lines: Vec<Line>,
 }
+
+/// Whom a deliver served, in rackrun's words and as one number: both by hand, so that no program's packing is taken for granted.
+pub const SERVED: [(&str, u64); 7] = [
+    ("d0.0", 0x0400_0000_0000_0000),
+    ("d1.0", 0x0401_0000_0000_0000),
+    ("d2.0", 0x0402_0000_0000_0000),
+    ("d2.1", 0x0402_0001_0000_0000),
+    ("d3.0", 0x0403_0000_0000_0000),
+    ("d3.10", 0x0403_000a_0000_0000),
+    ("d15.31", 0x040f_001f_0000_0000),
+];
 
 fn bytes(hex: &str, says: &'static str) -> Line {
     Line::Step(unhex(hex).expect("hexadecimal digits"), says)
@@ -31,7 +49,11 @@ fn send(component: u8, block: u8, target: u8, plain: u8, owner: bool, data: bool
 }
 
 fn deliver(says: &'static str) -> Line {
-    line(Step::Deliver { position: 0 }, says)
+    deliver_at(0, says)
+}
+
+fn deliver_at(position: u8, says: &'static str) -> Line {
+    line(Step::Deliver { position }, says)
 }
 
 fn raise(component: u8, says: &'static str) -> Line {
@@ -53,18 +75,18 @@ fn store(component: u8, says: &'static str) -> Line {
 pub fn all() -> Vec<Example> {
     let rack = |name, lines| Example { name, sizes: (2, 1, 3), opening: "ok", lines };
     let opening = |name, tokens, opening| Example { name, sizes: (2, 1, tokens), opening, lines: Vec::new() };
-    let w2 = || vec![send(0, 0, 1, 2, true, true, "ok"), deliver("ok"), store(1, "ok"), Line::Letter(1, 0, "M")];
+    let w2 = || vec![send(0, 0, 1, 2, true, true, "ok"), deliver("d1.0"), store(1, "ok"), Line::Letter(1, 0, "M")];
     let mut w3 = w2();
-    w3.extend([send(1, 0, 2, 1, false, false, "ok"), deliver("ok"), load(2, "r6")]);
+    w3.extend([send(1, 0, 2, 1, false, false, "ok"), deliver("d2.0"), load(2, "r6")]);
     let mut w4 = w2();
-    w4.extend([send(1, 0, 2, 1, false, false, "ok"), deliver("ok"), store(1, "r7")]);
+    w4.extend([send(1, 0, 2, 1, false, false, "ok"), deliver("d2.0"), store(1, "r7")]);
     let full = || {
         let mut lines: Vec<Line> = (0..63).map(|_| send(0, 0, 1, 1, false, false, "ok")).collect();
         lines.extend([send(0, 0, 1, 0, true, true, "ok"), send(0, 1, 1, 1, false, false, "r13")]);
         lines
     };
     let mut w8 = full();
-    w8.extend([deliver("ok"), send(0, 1, 1, 1, false, false, "ok")]);
+    w8.extend([deliver("d1.0"), send(0, 1, 1, 1, false, false, "ok")]);
     let mut forward_full = full();
     forward_full.extend([line(Step::Raise { component: 1, block: 1 }, "ok"), line(Step::Forward { component: 0, block: 1 }, "r13")]);
     vec![
@@ -82,14 +104,43 @@ pub fn all() -> Vec<Example> {
         opening("W11, T = 1", 1, "r19"),
         opening("W11, T = 2", 2, "ok"),
         rack(
-            "rackrun",
+            LISTING,
             vec![
                 bytes("12 00 18 01 00 01 00 02 00 01 00 05 00 01 01 06 00 01 02 07 00 01 01 08 00 01 01", "ok"),
-                bytes("13 00 04 09 00 01 00", "ok"),
+                bytes("13 00 04 09 00 01 00", "d1.0"),
                 bytes("11 00 13 01 00 01 01 02 00 01 00 03 00 01 00 04 00 04 00 00 00 2A", "ok"),
                 bytes("10 00 0C 01 00 01 01 02 00 01 00 03 00 01 00", "v0000002a"),
                 bytes("10 00 0C 01 00 01 02 02 00 01 00 03 00 01 00", "r5"),
             ],
         ),
+        Example {
+            name: SERVED_FAR,
+            sizes: (15, 32, 15),
+            opening: "ok",
+            lines: vec![
+                bytes("12 00 18 01 00 01 00 02 00 01 1F 05 00 01 0F 06 00 01 01 07 00 01 00 08 00 01 00", "ok"),
+                bytes("12 00 18 01 00 01 00 02 00 01 0A 05 00 01 03 06 00 01 01 07 00 01 00 08 00 01 01", "ok"),
+                bytes("13 00 04 09 00 01 01", "d3.10"),
+                bytes("13 00 04 09 00 01 00", "d15.31"),
+                bytes("13 00 04 09 00 01 00", "r14"),
+            ],
+        },
+        rack(
+            SERVED_HOME,
+            vec![send(0, 0, 1, 1, false, false, "ok"), deliver("d1.0"), send(1, 0, 0, 1, false, false, "ok"), deliver("d0.0")],
+        ),
+        Example {
+            name: SERVED_MIDDLE,
+            sizes: (3, 2, 5),
+            opening: "ok",
+            lines: vec![
+                send(0, 0, 1, 1, false, false, "ok"),
+                send(0, 1, 2, 1, false, true, "ok"),
+                send(0, 0, 3, 1, false, true, "ok"),
+                deliver_at(1, "d2.1"),
+                deliver("d1.0"),
+                deliver("d3.0"),
+            ],
+        },
     ]
 }

@@ -1,4 +1,5 @@
-//! Document 01 a second time, as typed values: what a rack is, when it is sound, what each step does and which refusal it meets.
+//! Document 01 a second time, as typed values, with document 02's No. 1: what a rack is, when it is sound, what each step does and which refusal it
+//! meets.
 //!
 //! It is written for reading beside the paper, section by section, and knows nothing of the record's bytes (`record` does).
 
@@ -172,11 +173,12 @@ pub enum Step {
     Forward { component: u8, block: u8 },
 }
 
-/// Load gives a word; every other accepted step gives only "done".
+/// Load gives a word, deliver the message's target and block; every other accepted step gives only "done".
 #[derive(Clone, Copy, Debug, PartialEq, Eq)]
 pub enum Answer {
     Done,
     Word(u32),
+    Served { component: u8, block: u8 },
 }
 
 pub type Reply = Result<Answer, Refusal>;
@@ -197,7 +199,7 @@ impl Rack {
             Step::Send { component, block, target, plain, owner, data } => {
                 self.send(component, block, target, u32::from(plain), owner, data)
             }
-            Step::Deliver { position } => self.deliver(position),
+            Step::Deliver { position } => return self.deliver(position),
             Step::Raise { component, block } => {
                 self.blocks[usize::from(block)].waiting.insert(component);
             }
@@ -229,7 +231,7 @@ impl Rack {
         self.mesh.push(Message { sender: component, target, block, plain, owner, data, words });
     }
 
-    fn deliver(&mut self, position: u8) {
+    fn deliver(&mut self, position: u8) -> Answer {
         let message = self.mesh.remove(usize::from(position));
         let cell = self.cell_mut(message.target, message.block);
         cell.plain += message.plain;
@@ -238,6 +240,7 @@ impl Rack {
             cell.words = message.words;
             cell.valid = true;
         }
+        Answer::Served { component: message.target, block: message.block }
     }
 }
 

@@ -370,7 +370,8 @@ fn apply(rec: &mut [u8], step: Step) -> u64 {
                 return NO_MESSAGE;
             }
             let from = MESH + MESSAGE * usize::from(position);
-            let to = cell_at(rec[from + 1], rec[from + 2]);
+            let (target, b) = (rec[from + 1], rec[from + 2]);
+            let to = cell_at(target, b);
             rec[to] += rec[from + 3];
             rec[to + 1] += rec[from + 4];
             if rec[from + 5] == 1 {
@@ -379,7 +380,7 @@ fn apply(rec: &mut [u8], step: Step) -> u64 {
             }
             rec.copy_within(from + MESSAGE..MESH + MESSAGE * usize::from(count), from);
             rec[3] -= 1;
-            DONE
+            4 << 56 | u64::from(target) << 48 | u64::from(b) << 32
         }
         Step::Raise { c, b } => {
             if c > n || b >= blocks {

@@ -2,12 +2,13 @@
 use native.Mathlib.Omega.{arith}
 use Rattle.spec_rack.specs.Rules.{after}
 use Rattle.spec_base.specs.Number.{Bytes}
-use Rattle.step_deliver.proofs.DeliveredMessage.{in-mesh, at-position, can-fill, can-remove, delivered-is}
+use Rattle.step_checks.proofs.StepOutcome.{written-is}
+use Rattle.step_deliver.proofs.DeliveredMessage.{in-mesh, at-position, can-fill, served-is, can-remove, delivered-is}
 use borrow.Author.Needs.{needs}
 use Rattle.step_deliver.proofs.deliver_message.Statement.{statement}
 use Rattle.step_deliver.proofs.deliver_message.Tie as tie
 
--- The first two by search, so that calls in another order are refused at what they then lack.
+-- The first two, and the reply, by search, so that calls in another order are refused at what they then lack.
 header-at-requires : tie.Need-header-at-requires
 header-at-requires c κs = at-position (search in-mesh) (search needs)
 
@@ -29,13 +30,16 @@ same-length c = search needs
 
 returns : tie.Need-returns
 unfolding after
-returns c =
-    let filled = c .before .before .before .before .before .before in
-    let found = filled .before .before in
-    let st = found .before .before .before in
-    let bytes : Bytes (st .args .rec .now) = λ k. found .before .before .slice-known .given k .fits in
-    delivered-is (st .args .rec .now) bytes (st .args .position) (found .header-at .result) (can-fill _ _ _ (st .pre) (found .header-at .ensures))
-    (filled .fill-target .last .0) (filled .fill-target .ensures) (c .before .before .remove .last .0) (c .before .before .remove .ensures)
+returns c = (
+  search served-is,
+  let filled = c .before .before .before .before .before .before in
+      let found = filled .before .before in
+      let st = found .before .before .before in
+      let bytes : Bytes (st .args .rec .now) = λ k. found .before .before .slice-known .given k .fits in
+      written-is _ _ _ (st .pre .1)
+      (delivered-is (st .args .rec .now) bytes (st .args .position) (found .header-at .result) (can-fill _ _ _ (st .pre) (found .header-at .ensures))
+      (filled .fill-target .last .0) (filled .fill-target .ensures) (c .before .before .remove .last .0) (c .before .before .remove .ensures)),
+)
 
 pub deliver-message-spec : {M : Type 1} → statement M
 deliver-message-spec = tie.close (tie.spec header-at-requires fill-target-requires remove-requires same-length returns)

@@ -1,20 +1,21 @@
 //! Writes, reads and runs step records in a form for people: see the package's README.
 
-use hyaloneth::script::{assemble, disassemble, opening_line, records, step_lines};
+use hyaloneth::script::{assemble, disassemble, opening_line, records, reply_text, step_lines};
 use hyaloneth::{Cell, Message, Record, Refusal, Reply, View};
 use std::fmt::Write as _;
 use std::io::{self, Read, Write};
 use std::process::ExitCode;
 
 const USAGE: &str = "\
-usage: hyaloneth-trace assemble FILE                a script becomes N, B, T and step records
-       hyaloneth-trace disassemble FILE             N, B, T and step records become a script
-       hyaloneth-trace run [--show] [--bytes] FILE  every step with its reply
+usage: hyaloneth-trace assemble FILE       a script becomes N, B, T and step records
+       hyaloneth-trace disassemble FILE    N, B, T and step records become a script
+       hyaloneth-trace run [OPTIONS] FILE  every step with its reply
 
 FILE is a file's name, or - for the standard input. Results go to the standard output.
-  --show   also prints the rack after each step that was accepted
-  --bytes  takes FILE for bytes; run otherwise takes it for a script unless it has bytes that no
-           text has
+  --show     also prints the rack after each step that was accepted
+  --rackrun  prints the lines of program rackrun instead
+  --bytes    takes FILE for bytes; run otherwise takes it for a script unless it has bytes that no
+             text has
 ";
 
 /// How many bytes program rackrun reads.
@@ -70,19 +71,23 @@ fn answer(arguments: &[&str]) -> Result<Vec<u8>, Failure> {
         }
         ["disassemble", file] => Ok(disassemble(&read(file)?).into_bytes()),
         ["run", options @ .., file] => {
-            let (mut show, mut bytes) = (false, false);
+            let (mut show, mut rackrun, mut bytes) = (false, false, false);
             for option in options {
                 match *option {
                     "--show" => show = true,
+                    "--rackrun" => rackrun = true,
                     "--bytes" => bytes = true,
                     _ => return Err(misused(&format!("run has no option `{option}`"))),
                 }
+            }
+            if show && rackrun {
+                return Err(misused("--rackrun prints no rack: expected it or --show, not both"));
             }
             let mut input = read(file)?;
             if !bytes && is_text(&input) {
                 input = assembled(file, input)?;
             }
-            Ok(run(&input, show).into_bytes())
+            Ok(if rackrun { rackrun_lines(&input) } else { run(&input, show) }.into_bytes())
         }
         ["assemble" | "disassemble", ..] => Err(misused("expected one file")),
         ["run"] => Err(misused("expected a file")),
@@ -123,44 +128,65 @@ fn is_text(input: &[u8]) -> bool {
         .is_ok_and(|text| !text.chars().any(|c| c.is_control() && !c.is_whitespace()))
 }
 
+/// Opens the rack of an input and makes its steps. Hands over the reply of the opening and of each
+/// step, and the rack, which there is once it was opened.
+fn play(input: &[u8], mut each: impl FnMut(Result<Reply, Refusal>, Option<&Record>)) {
+    let Some((&sizes, list)) = input.split_first_chunk::<3>() else {
+        return each(Err(Refusal::Torn), None);
+    };
+    let mut buffer = vec![0; Record::LONGEST];
+    let [boards, blocks, tokens] = sizes.map(u32::from);
+    match Record::open(&mut buffer, boards, blocks, tokens) {
+        Ok(mut rack) => {
+            each(Ok(Reply::Done), Some(&rack));
+            for record in records(list) {
+                let reply = rack.step_bytes(record);
+                each(reply, Some(&rack));
+            }
+        }
+        Err(refusal) => each(Err(refusal), None),
+    }
+}
+
 /// The opening and every step of an input with its reply, each on a line.
 fn run(input: &[u8], show: bool) -> String {
+    let mut steps = Vec::new();
+    match input.split_first_chunk::<3>() {
+        Some((&sizes, list)) => {
+            steps.push(opening_line(sizes));
+            steps.extend(records(list).map(shortened));
+        }
+        None => steps.push("fewer than three bytes".into()),
+    }
+    let index_width = (steps.len() - 1).to_string().len();
+    let width = steps.iter().map(|step| step.chars().count()).max().unwrap_or(0);
     let mut out = String::new();
-    let Some((&sizes, list)) = input.split_first_chunk::<3>() else {
-        let _ = writeln!(out, "0  fewer than three bytes  {}", Refusal::Torn);
-        return out;
-    };
-    let steps: Vec<String> = records(list).map(shortened).collect();
-    let opening = opening_line(sizes);
-    let index_width = steps.len().to_string().len();
-    let width = steps.iter().chain([&opening]).map(|step| step.chars().count()).max().unwrap_or(0);
-    let mut line = |index: usize, step: &str, reply: Result<Reply, Refusal>, table: &str| {
-        let reply = match reply {
+    let mut lines = steps.iter().enumerate();
+    play(input, |reply, rack| {
+        let Some((index, step)) = lines.next() else { return };
+        let text = match reply {
             Ok(reply) => reply.to_string(),
             Err(refusal) => refusal.to_string(),
         };
-        let _ = writeln!(out, "{index:>index_width$}  {step:<width$}  {reply}");
-        out.push_str(table);
-    };
-
-    let mut buffer = vec![0; Record::LONGEST];
-    let [boards, blocks, tokens] = sizes.map(u32::from);
-    let mut rack = match Record::open(&mut buffer, boards, blocks, tokens) {
-        Ok(rack) => rack,
-        Err(refusal) => {
-            line(0, &opening, Err(refusal), "");
-            return out;
+        let _ = writeln!(out, "{index:>index_width$}  {step:<width$}  {text}");
+        match rack {
+            // A refused step leaves the rack as the table before shows it.
+            Some(rack) if show && reply.is_ok() => out.push_str(&table(rack.view())),
+            _ => {}
         }
-    };
-    let table_of = |rack: &Record| if show { table(rack.view()) } else { String::new() };
-    line(0, &opening, Ok(Reply::Done), &table_of(&rack));
-    for (i, (record, step)) in records(list).zip(&steps).enumerate() {
-        let reply = rack.step_bytes(record);
-        // A refused step leaves the rack as the table before shows it.
-        let table = if reply.is_ok() { table_of(&rack) } else { String::new() };
-        line(i + 1, step, reply, &table);
-    }
+    });
     out
+}
+
+/// What program rackrun prints for an input.
+fn rackrun_lines(input: &[u8]) -> String {
+    let mut lines = String::new();
+    let mut index = 0;
+    play(&input[..input.len().min(RACKRUN_READS)], |reply, _| {
+        let _ = writeln!(lines, "{index} {}", reply_text(reply));
+        index += 1;
+    });
+    lines
 }
 
 /// A step on one line, also where it is long and torn.

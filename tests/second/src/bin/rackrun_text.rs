@@ -1,14 +1,14 @@
-//! What document 01 has rackrun write, by the model, and inputs to try the program on.
+//! What documents 01 and 02 have rackrun write, by the model, and inputs to try the program on.
 //!
 //!   rackrun_text                  reads an input from standard input and writes its text
 //!   rackrun_text --inputs DIR     writes the inputs to files of a folder
 //!
-//! The blind program must give the same replies.
+//! The blind program must write the same lines.
 
-use second::examples::{self, Line};
+use second::blind;
+use second::examples::{self, Line, LISTING, SERVED_FAR, SERVED_HOME, SERVED_MIDDLE};
 use second::lists::Lists;
 use second::model::{self, Answer, Rack, Reply, Step};
-use second::{blind, reply};
 use std::fmt::Write as _;
 use std::io::{Error, Read, Write as _};
 use std::path::Path;
@@ -23,6 +23,7 @@ fn say(reply: Reply) -> String {
     match reply {
         Ok(Answer::Done) => "ok".into(),
         Ok(Answer::Word(word)) => format!("v{word:08x}"),
+        Ok(Answer::Served { component, block }) => format!("d{component}.{block}"),
         Err(refusal) => format!("r{}", refusal.number()),
     }
 }
@@ -45,9 +46,10 @@ fn text(input: &[u8]) -> String {
     while !left.is_empty() {
         let (bytes, rest) = model::cut(left);
         let given = model::read(bytes).and_then(|step| rack.step(step));
-        assert_eq!(reply::of_reply(given), reply::of_blind(blind.step(bytes)), "the blind program replies otherwise");
+        let said = say(given);
+        assert_eq!(said, blind::text(blind.step(bytes)), "the blind program writes otherwise");
         index += 1;
-        writeln!(text, "{index} {}", say(given)).expect("a string takes it");
+        writeln!(text, "{index} {said}").expect("a string takes it");
         left = rest;
     }
     text
@@ -100,7 +102,7 @@ impl Input {
         self.bytes.resize(length, 0x13);
     }
 
-    /// Steps up to so many bytes; the last is a deliver that is done, if all of its bytes are used.
+    /// Steps up to so many bytes; the last is a deliver that is accepted, if all of its bytes are used.
     fn ends_with_deliver(mut self, length: usize) -> Vec<u8> {
         let send = Step::Send { component: 0, block: 0, target: 1, plain: 1, owner: false, data: false };
         let last = [send, Step::Deliver { position: 0 }].map(model::write).concat();
@@ -122,17 +124,38 @@ fn declared(bytes: &[u8]) -> usize {
     3 + usize::from(u16::from_be_bytes([bytes[1], bytes[2]]))
 }
 
-/// Document 01's input.
-fn listing() -> Vec<u8> {
-    let example = examples::all().into_iter().find(|example| example.name == "rackrun").expect("it is among the examples");
+/// The input of an example, of which the model's text is as stated.
+fn example(name: &str) -> Vec<u8> {
+    let example = examples::all().into_iter().find(|example| example.name == name).expect("it is among the examples");
     let (boards, blocks, tokens) = example.sizes;
     let mut bytes: Vec<u8> = [boards, blocks, tokens].map(|size| size as u8).to_vec();
-    for line in example.lines {
-        if let Line::Step(step, _) = line {
-            bytes.extend(step);
+    let mut stated = format!("0 {}\n", example.opening);
+    for (index, line) in (1..).zip(example.lines) {
+        let Line::Step(step, says) = line else { panic!("{name} has a line that rackrun has not") };
+        bytes.extend(step);
+        writeln!(stated, "{index} {says}").expect("a string takes it");
+    }
+    assert_eq!(text(&bytes), stated, "{name}");
+    bytes
+}
+
+/// Document 01's input.
+fn listing() -> Vec<u8> {
+    example(LISTING)
+}
+
+/// Each board and home served each block: every text that a deliver can have.
+fn served_all() -> Vec<u8> {
+    let mut input = Input::open((15, 32, 64), 0);
+    for block in 0..32 {
+        for board in 1..=15 {
+            for (component, target) in [(0, board), (board, 0)] {
+                input.give(Step::Send { component, block, target, plain: 1, owner: false, data: false });
+                input.give(Step::Deliver { position: 0 });
+            }
         }
     }
-    bytes
+    input.bytes
 }
 
 fn inputs() -> Vec<(String, Vec<u8>)> {
@@ -140,7 +163,10 @@ fn inputs() -> Vec<(String, Vec<u8>)> {
     let mut add = |name: &str, bytes: Vec<u8>| all.push((name.to_string(), bytes));
     let with = |tail: &[u8]| [&listing()[..], tail].concat();
 
-    add("listing", listing());
+    for name in [LISTING, SERVED_FAR, SERVED_HOME, SERVED_MIDDLE] {
+        add(name, example(name));
+    }
+    add("served_all", served_all());
     add("nothing", Vec::new());
     add("one_byte", vec![2]);
     add("two_bytes", vec![2, 1]);

@@ -1,9 +1,9 @@
-//! Document 01's examples, also against the results that it states.
+//! The examples, also against the results that are stated for them.
 
 use super::{filled, Harness, SPARE};
 use second::calls::{sound_rack, Call};
 use second::examples::{self, Line};
-use second::record;
+use second::{record, reply};
 
 impl Harness {
     pub fn examples(&mut self) -> Result<(), String> {
@@ -38,11 +38,12 @@ fn stated(name: &str, says: &str, result: u64) -> Result<(), String> {
         0 => "ok".into(),
         1 => format!("r{number}"),
         2 => format!("v{number:08x}"),
-        _ => (number as u8 as char).to_string(),
+        3 => (number as u8 as char).to_string(),
+        _ => examples::SERVED.iter().find(|(_, packed)| *packed == result).map_or(reply::say(result), |(text, _)| text.to_string()),
     };
     if said == says {
         Ok(())
     } else {
-        Err(format!("# {name}: {said} where document 01 states {says}"))
+        Err(format!("# {name}: {said} where {says} is stated"))
     }
 }

@@ -4,7 +4,7 @@ use super::{filled, Harness, Sizes, RACKS, SPARE};
 use second::calls::{byte_difference, hex, Layout, ENGINES, LAYOUTS, RECORD};
 use second::coverage::{kind_of, Coverage, LETTER};
 use second::lists::Lists;
-use second::model::{self, Answer, FlatMemory, Rack, Step};
+use second::model::{self, Answer, Cell, FlatMemory, Rack, Step};
 use second::{blind, record, reply};
 use std::collections::BTreeSet;
 
@@ -41,6 +41,11 @@ impl Harness {
 
 /// How many state letters are asked in turn after a step; racks with no more places have all of them asked.
 const LETTERS: u32 = 12;
+
+/// The tokens that each component holds, block by block.
+fn held(rack: &Rack) -> Vec<u32> {
+    rack.blocks.iter().flat_map(|block| block.cells.iter().map(Cell::held)).collect()
+}
 
 /// A list in progress.
 pub(super) struct List {
@@ -93,6 +98,7 @@ impl List {
     pub(super) fn step(&mut self, bytes: Vec<u8>, coverage: &mut Coverage) -> Result<u64, String> {
         let read = model::read(&bytes);
         let block = read.ok().and_then(|step| self.block_of(step));
+        let before = held(&self.rack);
         self.made.push(bytes);
         let reply = read.and_then(|step| self.rack.step(step));
         let want = reply::of_reply(reply);
@@ -110,7 +116,7 @@ impl List {
             self.same(i, want, given)?;
         }
         if let (Ok(step), Ok(answer)) = (read, reply) {
-            self.demand(step, answer, coverage)?;
+            self.demand(step, answer, &before, coverage)?;
         }
         self.replies.push(want);
         coverage.most_in_flight = coverage.most_in_flight.max(self.rack.mesh.len());
@@ -173,8 +179,9 @@ impl List {
         Err(self.case(&format!("blind: another state than the model's, block {block} or the mesh")))
     }
 
-    /// The record decoded is the model's rack and sound, each block's tokens are the opening's T, and the flat memory gives the words of loads.
-    fn demand(&mut self, step: Step, answer: Answer, coverage: &mut Coverage) -> Result<(), String> {
+    /// The record decoded is the model's rack and sound, each block's tokens are the opening's T, the flat memory gives the words of loads, and a
+    /// deliver's tokens came to the place that it says and to no other.
+    fn demand(&mut self, step: Step, answer: Answer, before: &[u32], coverage: &mut Coverage) -> Result<(), String> {
         match record::decode(&self.buffers[0]) {
             Some(rack) if rack == self.rack => {}
             _ => return Err(self.case("the decoded record is not the model's rack")),
@@ -196,6 +203,13 @@ impl List {
                 let flat = self.flat.load(block, word);
                 if given != flat {
                     return Err(self.case(&format!("load gives {given:08x}, the flat memory {flat:08x}")));
+                }
+            }
+            (Step::Deliver { .. }, Answer::Served { component, block }) => {
+                let place = usize::from(block) * self.rack.blocks[0].cells.len() + usize::from(component);
+                let after = held(&self.rack);
+                if after[place] <= before[place] || before.iter().zip(&after).filter(|(before, after)| before != after).count() != 1 {
+                    return Err(self.case(&format!("component {component} and block {block} are not what the deliver served")));
                 }
             }
             _ => {}

@@ -20,7 +20,7 @@ impl Harness {
                     // The room that is not needed is not lent, so that what is compared stays small.
                     let needed = record::length(blocks.min(32) as usize);
                     let given = self.call(&buffer[..needed + SPARE], &Call::Open(boards, blocks, tokens))?;
-                    let blind = reply::of_blind(blind::Rack::open(boards, blocks, tokens).map(|_| None));
+                    let blind = reply::of_blind(blind::Rack::open(boards, blocks, tokens).map(|_| blind::Answer::Done));
                     if given != blind {
                         return Err(format!("blind: {} at the opening {boards} {blocks} {tokens}", reply::say(blind)));
                     }

@@ -3,7 +3,7 @@
 use super::{filled, Harness, Sizes, SPARE};
 use second::calls::{sound_rack, Call};
 use second::model::{self, Rack, Step};
-use second::{record, reply};
+use second::record;
 use std::collections::HashSet;
 
 /// Racks with few states, the last two for long runs.
@@ -28,7 +28,7 @@ impl Harness {
             record::encode(&rack, &mut buffer);
             for step in all_steps(&rack) {
                 let result = self.call(&buffer, &Call::Step(&model::write(step)))?;
-                if result == reply::done(0) {
+                if result >> 56 != 1 && !matches!(step, Step::Load { .. }) {
                     let next = sound_rack(&self.comparison.after).map_err(|_| format!("# not sound after {step:?}"))?;
                     if !seen.contains(&next) {
                         seen.insert(next.clone());

@@ -21,6 +21,12 @@ cast-result c = search needs
 add-result : tie.Need-add-result
 add-result c = search needs
 
+enum-known-answer-2 : tie.Need-enum-known-answer-2
+enum-known-answer-2 c = search needs
+
+served-requires : tie.Need-served-requires
+served-requires c κs = search needs
+
 enum-known-reply-2 : tie.Need-enum-known-reply-2
 enum-known-reply-2 c = search needs
 
@@ -34,7 +40,10 @@ returns-2 : tie.Need-returns-2
 returns-2 c = sym (ap packedReply (c .before .before .before .before .reply .given .1 ∙ ap Accepted (c .before .answer .given .1)))
 
 returns-3 : tie.Need-returns-3
-returns-3 c = c .pack-refused .ensures ∙ sym (ap packedReply (c .before .before .reply2 .given .1))
+returns-3 c = c .served .ensures ∙ sym (ap packedReply (c .before .before .before .before .before .reply .given .1 ∙ ap Accepted (c .before .before .answer2 .given .1)))
+
+returns-4 : tie.Need-returns-4
+returns-4 c = c .pack-refused .ensures ∙ sym (ap packedReply (c .before .before .reply2 .given .1))
 
 pub reply-spec : {M : Type 1} → statement M
 reply-spec =
@@ -45,8 +54,11 @@ reply-spec =
     enum-known-answer
     cast-result
     add-result
+    enum-known-answer-2
+    served-requires
     enum-known-reply-2
     pack-refused-requires
     returns
     returns-2
-    returns-3)
+    returns-3
+    returns-4)

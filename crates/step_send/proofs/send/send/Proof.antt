@@ -39,7 +39,7 @@ returns-2 : tie.Need-returns-2
 unfolding answer
 returns-2 c =
     let way = c .before in
-    kept _ _ refl _ (way .before .before .send-check .ensures) (way .before .is-pass .ensures) (way .if1 .left) (c .reply-of .ensures)
+    kept _ _ _ (way .before .before .send-check .ensures) (way .before .is-pass .ensures) (way .if1 .left) (c .reply-of .ensures)
 
 pub send-spec : {M : Type 1} → statement M
 send-spec =
