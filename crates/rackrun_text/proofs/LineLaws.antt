@@ -18,7 +18,7 @@ use Rattle.spec_wire.proofs.RefusalTable.{number-known}
 use Rattle.spec_rack.specs.declared.Answer.the-variants.{Done, Word, Served}
 use Rattle.spec_rack.specs.declared.Reply.{Reply}
 use Rattle.spec_rack.specs.declared.Reply.the-variants.{Accepted, Refused}
-use Rattle.spec_rack.specs.Rackrun.{digit, digits, decimal, replyText, line}
+use Rattle.spec_rack.specs.Rackrun.{digit, digits, decimal, replyText, replyLine, line}
 
 -- ---- lengths
 
@@ -45,7 +45,7 @@ length-said (Refused r) = omega (arith, length-decimal 1 (number r))
 
 pub length-line : (i : ℕ) (r : Reply) → length (line i r) ≤ 16
 unfolding line
-length-line i r = omega (arith, length-append (decimal 4 i) (32 ∷ (replyText r ++ 10 ∷ [])), length-append (replyText r) (10 ∷ []), length-decimal 4 i, length-said r)
+length-line i r = omega (arith, length-append (decimal 4 i) (32 ∷ replyLine r), length-append (replyText r) (10 ∷ []), length-decimal 4 i, length-said r)
 
 -- ---- numbers in decimal, by their counts of digits
 
@@ -160,32 +160,32 @@ number-placed at last letter b k n end out out₁ h (p, q) = (
 
 -- a reply with one number
 pub reply-placed : (at last letter b k n : ℕ) (r : Reply) (out out₁ : List ℕ) → replyText r ≡ letter ∷ digits b k n
-    → (last ≡ at + k + 2) × (out₁ ≡ place at (letter ∷ (digits b k n ++ 10 ∷ [])) out) → Placed at (replyText r ++ 10 ∷ []) out last out₁
+    → (last ≡ at + k + 2) × (out₁ ≡ place at (letter ∷ (digits b k n ++ 10 ∷ [])) out) → Placed at (replyLine r) out last out₁
 reply-placed at last letter b k n r out out₁ e (p, q) =
-    placed-same at last (letter ∷ (digits b k n ++ 10 ∷ [])) (replyText r ++ 10 ∷ []) out out₁ (ap (λ (l : List ℕ). l ++ 10 ∷ []) (sym e))
+    placed-same at last (letter ∷ (digits b k n ++ 10 ∷ [])) (replyLine r) out out₁ (ap (λ (l : List ℕ). l ++ 10 ∷ []) (sym e))
     (omega (arith, length-append (digits b k n) (10 ∷ []), length-digits b k n), q)
 
 -- a component, a point, a block
 pub served-placed : (at next last c b w v : ℕ) (out out₁ out₂ : List ℕ) → at ≤ length out → c < 256 → b < 256
     → decimal 4 c ≡ digits 10 w c → decimal 4 b ≡ digits 10 v b
     → (next ≡ at + w + 2) × (out₁ ≡ place at (100 ∷ (digits 10 w c ++ 46 ∷ [])) out) → (last ≡ next + v + 1) × (out₂ ≡ place next (digits 10 v b ++ 10 ∷ []) out₁)
-    → Placed at (replyText (Accepted (Served c b)) ++ 10 ∷ []) out last out₂
+    → Placed at (replyLine (Accepted (Served c b))) out last out₂
 unfolding replyText
 served-placed at next last c b w v out out₁ out₂ h lc lb ec eb (p, q) (p′, q′) =
     let dc : decimal 2 c ≡ digits 10 w c = decimal-three c (omega arith) ∙ ec in
     let db : decimal 2 b ≡ digits 10 v b = decimal-three b (omega arith) ∙ eb in
-    placed-same at last ((100 ∷ (digits 10 w c ++ 46 ∷ [])) ++ (digits 10 v b ++ 10 ∷ [])) (replyText (Accepted (Served c b)) ++ 10 ∷ []) out out₂
+    placed-same at last ((100 ∷ (digits 10 w c ++ 46 ∷ [])) ++ (digits 10 v b ++ 10 ∷ [])) (replyLine (Accepted (Served c b))) out out₂
     (ap {B = List ℕ} (λ l. 100 ∷ l) (append-assoc (digits 10 w c) (46 ∷ []) (digits 10 v b ++ 10 ∷ []) ∙ (λ j. sym dc j ++ 46 ∷ (sym db j ++ 10 ∷ [])) ∙ sym (append-assoc (decimal 2 c) (46 ∷ decimal 2 b) (10 ∷ []))))
     (placed-more at next last (100 ∷ (digits 10 w c ++ 46 ∷ [])) (digits 10 v b ++ 10 ∷ []) out out₁ out₂ h
     (omega (arith, length-append (digits 10 w c) (46 ∷ []), length-digits 10 w c), q) (omega (arith, length-append (digits 10 v b) (10 ∷ []), length-digits 10 v b), q′))
 
 -- the index and a space, then the reply
 pub line-placed : (at next last i w : ℕ) (r : Reply) (out out₁ out₂ : List ℕ) → at ≤ length out → decimal 4 i ≡ digits 10 w i
-    → (next ≡ at + w + 1) × (out₁ ≡ place at (digits 10 w i ++ 32 ∷ []) out) → Placed next (replyText r ++ 10 ∷ []) out₁ last out₂
+    → (next ≡ at + w + 1) × (out₁ ≡ place at (digits 10 w i ++ 32 ∷ []) out) → Placed next (replyLine r) out₁ last out₂
     → Placed at (line i r) out last out₂
 unfolding line
 line-placed at next last i w r out out₁ out₂ h ei (p, q) second =
-    placed-same at last ((digits 10 w i ++ 32 ∷ []) ++ (replyText r ++ 10 ∷ [])) (line i r) out out₂
-    (append-assoc (digits 10 w i) (32 ∷ []) (replyText r ++ 10 ∷ []) ∙ (λ j. sym ei j ++ 32 ∷ (replyText r ++ 10 ∷ [])))
-    (placed-more at next last (digits 10 w i ++ 32 ∷ []) (replyText r ++ 10 ∷ []) out out₁ out₂ h
+    placed-same at last ((digits 10 w i ++ 32 ∷ []) ++ (replyLine r)) (line i r) out out₂
+    (append-assoc (digits 10 w i) (32 ∷ []) (replyLine r) ∙ (λ j. sym ei j ++ 32 ∷ replyLine r))
+    (placed-more at next last (digits 10 w i ++ 32 ∷ []) (replyLine r) out out₁ out₂ h
     (omega (arith, length-append (digits 10 w i) (32 ∷ []), length-digits 10 w i), q) second)

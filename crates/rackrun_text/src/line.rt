@@ -4,7 +4,7 @@ ghost use Prim.Native.Nat.{_+_, _≤_, _<_};
 ghost use mathlib.Core.List.{[], _∷_, _++_};
 ghost use lib.ListN.{length};
 ghost use Rattle.spec_base.specs.Placing.{place};
-ghost use Rattle.spec_rack.specs.Rackrun.{digit, digits, decimal, replyText, line};
+ghost use Rattle.spec_rack.specs.Rackrun.{digit, digits, decimal, replyLine, line};
 use spec_rack::Answer;
 use spec_rack::Reply;
 
@@ -68,7 +68,7 @@ fn put_number(
 // Places whom a deliver served, component, point and block, and the newline.
 fn put_served(out: &mut [u8], at: usize, component: u8, block: u8) -> usize
     requires { ⌜ at + 10 ≤ length (now out) ⌝ }
-    ensures { λ r. ⌜ (r ≡ at + length (replyText (Reply.Accepted (Answer.Served component block)) ++ 10 ∷ [])) × (now (out .exit) ≡ place at (replyText (Reply.Accepted (Answer.Served component block)) ++ 10 ∷ []) (now (out .entry))) ⌝ }
+    ensures { λ r. ⌜ (r ≡ at + length (replyLine (Reply.Accepted (Answer.Served component block)))) × (now (out .exit) ≡ place at (replyLine (Reply.Accepted (Answer.Served component block))) (now (out .entry))) ⌝ }
 {
     let first = component as u64;
     let second = block as u64;
@@ -79,7 +79,7 @@ fn put_served(out: &mut [u8], at: usize, component: u8, block: u8) -> usize
 // Places the text of a reply and the newline. Trick: `ok` is the letter `o` and one digit in base 32; digit 20 prints as `k`.
 fn put_reply(out: &mut [u8], at: usize, reply: Reply) -> usize
     requires { ⌜ at + 10 ≤ length (now out) ⌝ }
-    ensures { λ r. ⌜ (r ≡ at + length (replyText reply ++ 10 ∷ [])) × (now (out .exit) ≡ place at (replyText reply ++ 10 ∷ []) (now (out .entry))) ⌝ }
+    ensures { λ r. ⌜ (r ≡ at + length (replyLine reply)) × (now (out .exit) ≡ place at (replyLine reply) (now (out .entry))) ⌝ }
 {
     match reply {
         Reply::Accepted(answer) => match answer {

@@ -29,7 +29,7 @@ use Rattle.spec_rack.specs.Entries.{stepAfter}
 use Rattle.spec_rack.specs.Opening.{openCheck, openReply}
 use Rattle.spec_rack.specs.Effects.{AcceptedAs}
 use Rattle.spec_rack.specs.Lists.{repliesOf, ruledAfter, rackReplies}
-use Rattle.spec_rack.specs.Served.{Serves, SaysWhom, ServedBy, EveryServed, answerBefore, replyBefore, withoutServed, AsBefore}
+use Rattle.spec_rack.specs.Served.{Serves, Names, SaysWhom, ServedBy, EveryServed, answerBefore, replyBefore, withoutServed, AsBefore}
 use Rattle.spec_rack.proofs.SoundnessFacts.{Sound, sound-facts}
 use Rattle.spec_rack.proofs.BlockInvariant.{message-sound, cell-in}
 use Rattle.spec_rack.proofs.TokenConservation.{delivered-held}
@@ -77,23 +77,35 @@ module _ (r : Rack) (s : Sound r) (i : ℕ) (h : i < length (r .mesh)) where
   serves : Serves r i (messageAt r i .header .target) (messageAt r i .header .block) (delivered r i)
   serves = record { gains = ap held target-cell ∙ delivered-held r s i h; some = message-sound r s i h .token; others = other-cells }
 
-whom : (r : Rack) → Sound r → (i c b : ℕ) (r′ : Rack) → rules r (Deliver i) ≡ accepted (Served c b) r′ → Serves r i c b r′
+whom : (r : Rack) → Sound r → (i : ℕ) (a : Answer) (r′ : Rack) → rules r (Deliver i) ≡ accepted a r′ → Names r i a r′
 unfolding rules check answer after when_refuse_else_
-whom r s i c b r′ = go (pastMesh r i) refl
+whom r s i a r′ = go (pastMesh r i) refl
   where
     go : (t : Bool) → pastMesh r i ≡ t
-        → settled (when t refuse NoMessage else Pass) (Served (messageAt r i .header .target) (messageAt r i .header .block)) (delivered r i) ≡ accepted (Served c b) r′
-        → Serves r i c b r′
+        → settled (when t refuse NoMessage else Pass) (Served (messageAt r i .header .target) (messageAt r i .header .block)) (delivered r i) ≡ accepted a r′
+        → Names r i a r′
     go true e q = let none : true ≡ false = cc in differs none
     go false e q =
-        let target : messageAt r i .header .target ≡ c = cc in
-        let block : messageAt r i .header .block ≡ b = cc in
         let left : delivered r i ≡ r′ = cc in
-        subst (λ (v : ℕ × ℕ × Rack). Serves r i (v .0) (v .1) (v .2)) (λ j. (target j, block j, left j))
-        (serves r s i (leb-false (length (r .mesh)) i e))
+        record {
+          component = messageAt r i .header .target;
+          block = messageAt r i .header .block;
+          named = cc;
+          serves =
+              subst (Serves r i (messageAt r i .header .target) (messageAt r i .header .block)) left
+              (serves r s i (leb-false (length (r .mesh)) i e));
+        }
 
 pub says-whom : SaysWhom
-says-whom r i c b r′ h = whom r (sound-facts r h) i c b r′
+says-whom r i a r′ h = whom r (sound-facts r h) i a r′
+
+-- an answer names one component and one block
+named-one : (r : Rack) (i c b : ℕ) (r′ : Rack) → Names r i (Served c b) r′ → Serves r i c b r′
+named-one r i c b r′ names =
+    let same : Served c b ≡ Served (names .component) (names .block) = names .named in
+    let component : names .component ≡ c = cc in
+    let block : names .block ≡ b = cc in
+    subst (λ (v : ℕ × ℕ). Serves r i (v .0) (v .1) r′) (λ j. (component j, block j)) (names .serves)
 
 -- ---- of the bytes of a step
 
@@ -114,7 +126,7 @@ module _ (s bytes : List ℕ) (c b : ℕ) where
   by-step : (t : Step) → readRecord bytes ≡ Read t → soundBytes s ≡ true → rules (get s) t ≡ accepted (Served c b) (get (stepAfter s bytes))
       → answer (get s) t ≡ Served c b → ServedBy s bytes c b
   unfolding answer
-  by-step (Deliver i) e h q said = record { position = i; read = e; serves = whom (get s) (rack-sound s h) i c b (get (stepAfter s bytes)) q }
+  by-step (Deliver i) e h q said = record { position = i; read = e; serves = named-one (get s) i c b _ (whom (get s) (rack-sound s h) i (Served c b) (get (stepAfter s bytes)) q) }
   by-step (Load f g w) e h q said = not-served said refl
   by-step (Store f g w v) e h q said = not-served said refl
   by-step (Send f g t p o d) e h q said = not-served said refl

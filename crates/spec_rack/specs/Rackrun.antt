@@ -35,9 +35,13 @@ replyText (Accepted (Word w)) = 118 ∷ digits 16 8 w
 replyText (Accepted (Served c b)) = 100 ∷ (decimal 2 c ++ 46 ∷ decimal 2 b)
 replyText (Refused r) = 114 ∷ decimal 1 (number r)
 
+-- the text of a reply, and a newline
+abbrev pub replyLine : Reply → List ℕ
+replyLine r = replyText r ++ 10 ∷ []
+
 -- a line: the index, a space, what is said, a newline
 unfoldable pub line : ℕ → Reply → List ℕ
-line i r = decimal 4 i ++ 32 ∷ (replyText r ++ 10 ∷ [])
+line i r = decimal 4 i ++ 32 ∷ replyLine r
 
 -- lines of replies, with rising indices
 unfoldable pub lines : ℕ → List Reply → List ℕ

@@ -30,9 +30,16 @@ pub record Serves (r : Rack) (i c b : ℕ) (r′ : Rack) : Type 0 where
   pub some : 0 < carried (messageAt r i)
   pub others : (j k : ℕ) → ((j ≡ b) × (k ≡ c) → ⊥) → cellAt r′ j k ≡ cellAt r j k
 
--- So it is for every sound rack and every accepted deliver: where it names a component and a block, tokens came, and nowhere else.
+-- an answer that names a component and a block, and these are whom the deliver of message i served
+pub record Names (r : Rack) (i : ℕ) (a : Answer) (r′ : Rack) : Type 0 where
+  pub component : ℕ
+  pub block : ℕ
+  pub named : a ≡ Served component block
+  pub serves : Serves r i component block r′
+
+-- So does every accepted deliver on every sound rack. None gives only "done", and tokens came where it says and nowhere else.
 abbrev pub SaysWhom : Type 0
-SaysWhom = (r : Rack) (i c b : ℕ) (r′ : Rack) → sound r ≡ true → rules r (Deliver i) ≡ accepted (Served c b) r′ → Serves r i c b r′
+SaysWhom = (r : Rack) (i : ℕ) (a : Answer) (r′ : Rack) → sound r ≡ true → rules r (Deliver i) ≡ accepted a r′ → Names r i a r′
 
 -- ---- the same of the bytes of a step, given to the record in a lent buffer
 
