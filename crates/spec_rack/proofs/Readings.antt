@@ -63,7 +63,9 @@ first-match =
       home-3 = refl;
       home-4 = refl;
       home-4-claimed = refl;
-      home-4-stale = refl;
+      home-4-all = refl;
+      home-5 = refl;
+      home-6 = refl;
       board-3 = refl;
       load-5 = refl;
       letter-2 = refl;
@@ -132,6 +134,7 @@ flat-memory =
     record {
       words = refl;
       handed = refl;
+      handed-at-home = refl;
     }
 
 pub raise-and-lower : RaiseAndLower

@@ -130,7 +130,6 @@ module _ (r : Rack) (s : Sound r) where
   passed (Load c b w) =
       let past = guard (Goal (Load c b w)) in
       past _ _ _ λ known.
-      past _ _ _ λ board.
       past _ _ _ λ token.
       past _ _ _ λ valid.
       let on = or-l _ _ known in

@@ -3,6 +3,7 @@ use mathlib.Core.List.{List}
 use Prim.Native.Nat.{ℕ}
 use Rattle.spec_wire.specs.declared.Step.{Step}
 use Rattle.spec_rack.specs.declared.Reply.{Reply}
+use Rattle.spec_rack.specs.Rack.{Rack}
 use Rattle.spec_rack.specs.Rules.{Outcome, refused, accepted, rules, reply}
 use Rattle.spec_rack.specs.RecordLayout.{get, put}
 use mathlib.Core.Bool.{cond}
@@ -24,10 +25,14 @@ replyToStep s t = reply (rules (get s) t)
 abbrev pub bufferAfter : List ℕ → Step → List ℕ
 bufferAfter s t = bufferAfterOutcome s (rules (get s) t)
 
--- bytes that are no step record are refused, then a buffer that holds no sound record; then the rules decide
+-- bytes that are no step record are refused, then a buffer that holds no sound record; then it is decided by the rack
+abbrev pub outcomeBy : (Rack → Step → Outcome) → Reading → List ℕ → Outcome
+outcomeBy decide (NoStep n) s = refused n
+outcomeBy decide (Read t) s = cond (soundBytes s) (decide (get s) t) (refused Unsound)
+
+-- namely by the rules
 abbrev pub outcome : Reading → List ℕ → Outcome
-outcome (NoStep n) s = refused n
-outcome (Read t) s = cond (soundBytes s) (rules (get s) t) (refused Unsound)
+outcome k s = outcomeBy rules k s
 
 -- the reply, and the buffer afterwards
 unfoldable pub stepReply : List ℕ → List ℕ → Reply

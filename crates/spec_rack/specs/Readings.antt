@@ -36,7 +36,7 @@ use Rattle.spec_rack.specs.Examples.{code, sendPlain}
 -- ---- "A step meets only the refusals that name it": those that may answer a step, in the order of "First match"
 
 abbrev pub naming : Step → List ℕ
-naming (Load c b w) = 3 ∷ 4 ∷ 5 ∷ 6 ∷ []
+naming (Load c b w) = 3 ∷ 5 ∷ 6 ∷ []
 naming (Store c b w v) = 3 ∷ 4 ∷ 7 ∷ []
 naming (Send c b t p o d) = 3 ∷ 8 ∷ 9 ∷ 10 ∷ 11 ∷ 12 ∷ 6 ∷ 13 ∷ []
 naming (Deliver i) = 14 ∷ []
@@ -53,7 +53,7 @@ abbrev pub among : List ℕ → Check → Bool
 among ns Pass = true
 among ns (Refuse r) = listed (number r) ns
 
--- so a deliver never meets 3 or 4, a send or a forward never 4, a forward never 9
+-- so a deliver never meets 3 or 4, a load, a send or a forward never 4, a forward never 9
 abbrev pub OnlyNaming : Type 0
 OnlyNaming = (r : Rack) (s : Step) → among (naming s) (check r s) ≡ true
 
@@ -61,6 +61,10 @@ OnlyNaming = (r : Rack) (s : Step) → among (naming s) (check r s) ≡ true
 
 abbrev pub met : Rack → List Step → List ℕ
 met r ss = map (λ s. code (reply (rules r s))) ss
+
+-- a fresh rack of 2 boards and 2 blocks
+abbrev pub two : Rack
+two = fresh 2 2 3
 
 -- the rack after steps on a fresh rack of 2 boards and 2 blocks with 64 tokens each
 abbrev pub from64 : List Step → Rack
@@ -93,14 +97,18 @@ pub record FirstMatch : Type 0 where
   pub forward-8 : met claimedFull (Forward 2 0 ∷ []) ≡ 8 ∷ []
   pub forward-5 : met claimedFull (Forward 1 0 ∷ []) ≡ 5 ∷ []
   pub forward-13 : met claimedFull (Forward 0 1 ∷ Forward 1 1 ∷ []) ≡ 13 ∷ 13 ∷ []
-  -- load, store, raise, lower: 3 before 4, at home with a block or a word off the rack
+  -- 3 first, at home with a block or a word off the rack: before 4 of a store, a raise and a lower, before 5 of a load
   pub home-3 : met full (Load 0 2 0 ∷ Load 0 0 8 ∷ Store 0 2 0 1 ∷ Store 0 0 8 1 ∷ Raise 0 2 ∷ Lower 0 2 ∷ []) ≡ 3 ∷ 3 ∷ 3 ∷ 3 ∷ 3 ∷ 3 ∷ []
-  -- 4 before 5 and 7, at home where it holds nothing; before 16 and 17 where a board waits, and where none does
-  pub home-4 : met full (Load 0 0 0 ∷ Store 0 0 0 1 ∷ Raise 0 0 ∷ Lower 0 0 ∷ []) ≡ 4 ∷ 4 ∷ 4 ∷ 4 ∷ []
+  -- 4 before 7, at home where it holds nothing; before 16 and 17 where a board waits, and where none does
+  pub home-4 : met full (Store 0 0 0 1 ∷ Raise 0 0 ∷ Lower 0 0 ∷ []) ≡ 4 ∷ 4 ∷ 4 ∷ []
   pub home-4-claimed : met claimedFull (Raise 0 0 ∷ Lower 0 0 ∷ []) ≡ 4 ∷ 4 ∷ []
-  -- 4 before 6: home gives all to board 1 and gets a plain token back without data
-  pub home-4-stale :
-      met (run (fresh 2 1 3) (Send 0 0 1 2 true true ∷ Deliver 0 ∷ sendPlain 1 0 1 ∷ Deliver 0 ∷ [])) (Load 0 0 0 ∷ Store 0 0 0 1 ∷ []) ≡ 4 ∷ 4 ∷ []
+  -- and at home where it holds all T, so that no line but 4 stops a store
+  pub home-4-all : met two (Store 0 0 0 1 ∷ []) ≡ 4 ∷ []
+  -- a load at home: 5 where it holds nothing, and else it is answered (document 02, No. 7)
+  pub home-5 : met full (Load 0 0 0 ∷ Load 0 1 0 ∷ []) ≡ 5 ∷ 0 ∷ []
+  -- 6, and a store's 4: home gives all to board 1 and gets a plain token back without data
+  pub home-6 :
+      met (run (fresh 2 1 3) (Send 0 0 1 2 true true ∷ Deliver 0 ∷ sendPlain 1 0 1 ∷ Deliver 0 ∷ [])) (Load 0 0 0 ∷ Store 0 0 0 1 ∷ []) ≡ 6 ∷ 4 ∷ []
   -- 3 before 5, 7 and 17
   pub board-3 : met full (Load 3 0 0 ∷ Store 3 0 0 1 ∷ Lower 3 0 ∷ []) ≡ 3 ∷ 3 ∷ 3 ∷ []
   -- load: 5 before 6, and 6 needs a token
@@ -117,10 +125,6 @@ pub record FirstMatch : Type 0 where
   pub opening-20 : code (openReply 1 1 1 []) ≡ 20
 
 -- ---- the edges of 3 and 19
-
--- a fresh rack of 2 boards and 2 blocks
-abbrev pub two : Rack
-two = fresh 2 2 3
 
 -- what an opening with n, b and t meets in a buffer of 65,536 bytes
 abbrev pub opens : ℕ → ℕ → ℕ → ℕ
@@ -235,6 +239,8 @@ pub record FlatMemory : Type 0 where
   pub handed :
       rackAccesses (fresh 2 1 3) (Load 1 0 0 ∷ Store 1 0 0 1 ∷ Send 0 0 1 2 true true ∷ Deliver 0 ∷ Store 1 0 2 7 ∷ Load 2 0 2 ∷ Raise 2 0 ∷ Load 1 0 2 ∷ [])
       ≡ store 0 2 7 ∷ load 0 2 ∷ []
+  -- those at home like any other (document 02, No. 7)
+  pub handed-at-home : rackAccesses (fresh 2 1 3) (Load 0 0 2 ∷ Store 0 0 2 7 ∷ Load 0 1 2 ∷ Load 0 0 3 ∷ []) ≡ load 0 2 ∷ load 0 3 ∷ []
 
 -- ---- raise and lower. The sets of a block: the waiting set first, then the barring sets of boards 1, 2 and 3; board i adds 2 ^ i.
 

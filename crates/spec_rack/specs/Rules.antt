@@ -104,9 +104,9 @@ abbrev pub pastMesh : Rack → ℕ → Bool
 pastMesh r i = leb (length (r .mesh)) i
 
 unfoldable pub check : Rack → Step → Check
+-- at home too (document 02, No. 7): document 01 refused a load there with 4
 check r (Load c b w) =
     when offRack r c b || pastWords w refuse OffRack else
-    when eqb c 0 refuse Home else
     when eqb (held (cellAt r b c)) 0 refuse NoToken else
     when not (cellAt r b c .valid) refuse NoData else
     Pass

@@ -1,5 +1,5 @@
--- Document 02, No. 1: a deliver says whom it served. The definition is `answer` in Rules.antt; here is what it means for the rack, and that all else
--- is answered as document 01 has it.
+-- Document 02, No. 1: a deliver says whom it served. The definition is `answer` in Rules.antt; here is what it means for the rack, and that every other
+-- answer is document 01's.
 use Prim.Native.Nat.{ℕ, _+_, _<_}
 use mathlib.Core.Path.{_≡_}
 use mathlib.Core.Bool.{true}
@@ -75,7 +75,8 @@ withoutServed (Accepted (Word w)) = Accepted (Word w)
 withoutServed (Accepted (Served c b)) = Accepted Done
 withoutServed (Refused n) = Refused n
 
--- Only a deliver's reply is new, and only where it is accepted. The racks are the same: `check` and `after` are those of document 01.
+-- Only a deliver's reply is new, and only where it is accepted. Which steps are accepted and what they change is said by `check` and `after`, of which
+-- No. 1 says nothing.
 pub record AsBefore : Type 0 where
   pub step : (r : Rack) (s : Step) → withoutServed (reply (rules r s)) ≡ replyBefore r s
   pub other-step : (r : Rack) (s : Step) → ((i : ℕ) → s ≡ Deliver i → ⊥) → reply (rules r s) ≡ replyBefore r s

@@ -19,9 +19,6 @@ pub fn load(rec: &[u8], component: u8, block: u8, word: u8) -> Reply
     if step_checks::checks::off_rack_word(rec, component, block, word) {
         return Reply::Refused(Refusal::OffRack);
     }
-    if step_checks::checks::at_home(component) {
-        return Reply::Refused(Refusal::Home);
-    }
     let state = record::cells::token_state(rec, block, component);
     if step_checks::tokens::held(state) == 0 {
         return Reply::Refused(Refusal::NoToken);

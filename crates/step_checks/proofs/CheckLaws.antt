@@ -38,36 +38,32 @@ module _ (r : Rack) (c b w : ℕ) {off : Bool} (off-is : off ≡ (offRack r c b 
     unfolding check
     store-off-rack v = search (table, sym off-is ∙ off-rack) depth 10
 
-  module _ (on-rack : off ≡ false) {home : Bool} (home-is : home ≡ eqb c 0) where
-    module _ (at-home : home ≡ true) where
-      pub load-home : Refuse Home ≡ check r (Load c b w)
-      unfolding check
-      load-home = search (table, sym off-is ∙ on-rack, sym home-is ∙ at-home) depth 10
-
-      pub store-home : (v : ℕ) → Refuse Home ≡ check r (Store c b w v)
-      unfolding check
-      store-home v = search (table, sym off-is ∙ on-rack, sym home-is ∙ at-home) depth 10
-
-    module _ (away : home ≡ false) {m : TokenState} (state : TokenStateOf (cellAt r b c) m) {h : ℕ} (tokens : h ≡ m .plain + toℕ (m .owner)) where
+  module _ (on-rack : off ≡ false) where
+    module _ {m : TokenState} (state : TokenStateOf (cellAt r b c) m) {h : ℕ} (tokens : h ≡ m .plain + toℕ (m .owner)) where
       pub load-no-token : h ≡ 0 → Refuse NoToken ≡ check r (Load c b w)
       unfolding check
-      load-no-token none = let none : held (cellAt r b c) ≡ 0 = sym (held-is state tokens) ∙ none in search (table, sym off-is ∙ on-rack, sym home-is ∙ away) depth 10
+      load-no-token none = let none : held (cellAt r b c) ≡ 0 = sym (held-is state tokens) ∙ none in search (table, sym off-is ∙ on-rack) depth 10
 
       pub load-no-data : (h ≡ 0 → ⊥) → not (m .valid) ≡ true → Refuse NoData ≡ check r (Load c b w)
       unfolding check
       load-no-data some stale =
           let some : held (cellAt r b c) ≡ 0 → ⊥ = λ e. some (held-is state tokens ∙ e) in
           let stale : cellAt r b c .valid ≡ false = sym (state .valid) ∙ not-true _ stale in
-          search (table, sym off-is ∙ on-rack, sym home-is ∙ away) depth 10
+          search (table, sym off-is ∙ on-rack) depth 10
 
       pub load-pass : (h ≡ 0 → ⊥) → not (m .valid) ≡ false → Pass ≡ check r (Load c b w)
       unfolding check
       load-pass some valid =
           let some : held (cellAt r b c) ≡ 0 → ⊥ = λ e. some (held-is state tokens ∙ e) in
           let valid : cellAt r b c .valid ≡ true = sym (state .valid) ∙ not-false _ valid in
-          search (table, sym off-is ∙ on-rack, sym home-is ∙ away) depth 10
+          search (table, sym off-is ∙ on-rack) depth 10
 
-      module _ (v : ℕ) {t : ℕ} (all : r .tokens ≡ t) where
+    module _ (v : ℕ) {home : Bool} (home-is : home ≡ eqb c 0) where
+      pub store-home : home ≡ true → Refuse Home ≡ check r (Store c b w v)
+      unfolding check
+      store-home at-home = search (table, sym off-is ∙ on-rack, sym home-is ∙ at-home) depth 10
+
+      module _ (away : home ≡ false) {m : TokenState} (state : TokenStateOf (cellAt r b c) m) {h : ℕ} (tokens : h ≡ m .plain + toℕ (m .owner)) {t : ℕ} (all : r .tokens ≡ t) where
         pub store-short : h < t → Refuse Short ≡ check r (Store c b w v)
         unfolding check
         store-short short = let short : held (cellAt r b c) < r .tokens = omega (arith, held-is state tokens) in search (table, sym off-is ∙ on-rack, sym home-is ∙ away) depth 10

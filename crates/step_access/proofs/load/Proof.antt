@@ -1,7 +1,7 @@
 -- `step_access::load` meets its contract: its tests are those of the table, in order, and where all fail it gives the word.
 use mathlib.Core.Path.{refl, ap}
 use native.Mathlib.Omega.{arith}
-use Rattle.step_checks.proofs.CheckLaws.{load-off-rack, load-home, load-no-token, load-no-data, load-pass}
+use Rattle.step_checks.proofs.CheckLaws.{load-off-rack, load-no-token, load-no-data, load-pass}
 use Rattle.step_checks.proofs.RackBounds.{on-of, in-cell, on-word}
 use Rattle.step_checks.proofs.StepOutcome.{refused-is, accepted-is}
 use Rattle.spec_rack.specs.Rules.{answer}
@@ -16,67 +16,50 @@ off-rack-word-requires c κs = search needs
 returns : tie.Need-returns
 returns c = refused-is _ _ (load-off-rack _ _ _ _ (c .before .off-rack-word .ensures) (c .if1 .taken))
 
-at-home-requires : tie.Need-at-home-requires
-at-home-requires c κs = search needs
+token-state-requires : tie.Need-token-state-requires
+token-state-requires c κs =
+    let c1 = c .before in
+    let s = c1 .before .before in
+    in-cell _ _ _ refl (on-of _ _ _ (s .args .word) (c1 .off-rack-word .ensures) (c .if1 .left)) (s .pre .whole)
+
+held-requires : tie.Need-held-requires
+held-requires c κs = search needs
 
 returns-2 : tie.Need-returns-2
 returns-2 c =
     let c1 = c .before in
     let c2 = c1 .before in
     let c3 = c2 .before in
-    refused-is _ _ (load-home _ _ _ _ (c3 .off-rack-word .ensures) (c2 .if1 .left) (c1 .at-home .ensures) (c .if2 .taken))
-
-token-state-requires : tie.Need-token-state-requires
-token-state-requires c κs =
-    let c2 = c .before .before in
-    let c3 = c2 .before in
-    let c5 = c3 .before .before in
-    in-cell _ _ _ refl (on-of _ _ _ (c5 .args .word) (c3 .off-rack-word .ensures) (c2 .if1 .left)) (c5 .pre .whole)
-
-held-requires : tie.Need-held-requires
-held-requires c κs = search needs
+    let c4 = c3 .before in
+    refused-is _ _ (load-no-token _ _ _ _ (c4 .off-rack-word .ensures) (c3 .if1 .left) (c2 .token-state .ensures) (c1 .held .ensures) (omega arith))
 
 returns-3 : tie.Need-returns-3
 returns-3 c =
-    let c1 = c .before in
-    let c2 = c1 .before in
-    let c3 = c2 .before in
-    let c4 = c3 .before in
-    let c5 = c4 .before in
-    let c6 = c5 .before in
-    refused-is _ _ (load-no-token _ _ _ _ (c6 .off-rack-word .ensures) (c5 .if1 .left) (c4 .at-home .ensures) (c3 .if2 .left) (c2 .token-state .ensures) (c1 .held .ensures) (omega arith))
-
-returns-4 : tie.Need-returns-4
-returns-4 c =
     let c2 = c .before .before in
     let c3 = c2 .before in
     let c4 = c3 .before in
     let c5 = c4 .before in
     let c6 = c5 .before in
-    let c7 = c6 .before in
-    let c8 = c7 .before in
-    refused-is _ _ (load-no-data _ _ _ _ (c8 .off-rack-word .ensures) (c7 .if1 .left) (c6 .at-home .ensures) (c5 .if2 .left) (c4 .token-state .ensures) (c3 .held .ensures) (c2 .if3 .left) (c .if4 .taken))
+    refused-is _ _ (load-no-data _ _ _ _ (c6 .off-rack-word .ensures) (c5 .if1 .left) (c4 .token-state .ensures) (c3 .held .ensures) (c2 .if2 .left) (c .if3 .taken))
 
 word-requires : tie.Need-word-requires
 word-requires c κs =
-    let c7 = c .before .before .before .before .before .before .before in
-    let c8 = c7 .before in
-    let s = c8 .before .before in
-    let known = on-word (s .args .rec .now) (s .pre .whole) (s .args .component) (s .args .block) (s .args .word) (c8 .off-rack-word .ensures) (c7 .if1 .left) in
+    let c5 = c .before .before .before .before .before in
+    let c6 = c5 .before in
+    let s = c6 .before .before in
+    let known = on-word (s .args .rec .now) (s .pre .whole) (s .args .component) (s .args .block) (s .args .word) (c6 .off-rack-word .ensures) (c5 .if1 .left) in
     (known .0, omega (arith, known .1))
 
-returns-5 : tie.Need-returns-5
+returns-4 : tie.Need-returns-4
 unfolding answer
-returns-5 c =
+returns-4 c =
     let c1 = c .before in
     let c3 = c1 .before .before in
     let c4 = c3 .before in
     let c5 = c4 .before in
     let c6 = c5 .before in
     let c7 = c6 .before in
-    let c8 = c7 .before in
-    let c9 = c8 .before in
-    accepted-is _ _ (load-pass _ _ _ _ (c9 .off-rack-word .ensures) (c8 .if1 .left) (c7 .at-home .ensures) (c6 .if2 .left) (c5 .token-state .ensures) (c4 .held .ensures) (c3 .if3 .left) (c1 .if4 .left)) (ap Word (c .word .ensures))
+    accepted-is _ _ (load-pass _ _ _ _ (c7 .off-rack-word .ensures) (c6 .if1 .left) (c5 .token-state .ensures) (c4 .held .ensures) (c3 .if2 .left) (c1 .if3 .left)) (ap Word (c .word .ensures))
 
 pub load-spec : {M : Type 1} → statement M
 load-spec =
@@ -84,11 +67,9 @@ load-spec =
     (tie.spec
     off-rack-word-requires
     returns
-    at-home-requires
-    returns-2
     token-state-requires
     held-requires
+    returns-2
     returns-3
-    returns-4
     word-requires
-    returns-5)
+    returns-4)

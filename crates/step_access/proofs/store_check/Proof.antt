@@ -21,7 +21,7 @@ returns-2 c =
     let c1 = c .before in
     let c2 = c1 .before in
     let c3 = c2 .before in
-    store-home _ _ _ _ (c3 .off-rack-word .ensures) (c2 .if1 .left) (c1 .at-home .ensures) (c .if2 .taken) _
+    store-home _ _ _ _ (c3 .off-rack-word .ensures) (c2 .if1 .left) _ (c1 .at-home .ensures) (c .if2 .taken)
 
 token-state-requires : tie.Need-token-state-requires
 token-state-requires c κs =
@@ -48,7 +48,7 @@ returns-3 c =
     let c6 = c5 .before in
     let c7 = c6 .before in
     let c8 = c7 .before in
-    store-short _ _ _ _ (c8 .off-rack-word .ensures) (c7 .if1 .left) (c6 .at-home .ensures) (c5 .if2 .left) (c4 .token-state .ensures) (c3 .held .ensures) _ (tokens-is _ ∙ sym (c1 .wide .ensures .0)) (c .if3 .taken)
+    store-short _ _ _ _ (c8 .off-rack-word .ensures) (c7 .if1 .left) _ (c6 .at-home .ensures) (c5 .if2 .left) (c4 .token-state .ensures) (c3 .held .ensures) (tokens-is _ ∙ sym (c1 .wide .ensures .0)) (c .if3 .taken)
 
 returns-4 : tie.Need-returns-4
 returns-4 c =
@@ -59,7 +59,7 @@ returns-4 c =
     let c6 = c5 .before in
     let c7 = c6 .before in
     let c8 = c7 .before in
-    store-pass _ _ _ _ (c8 .off-rack-word .ensures) (c7 .if1 .left) (c6 .at-home .ensures) (c5 .if2 .left) (c4 .token-state .ensures) (c3 .held .ensures) _ (tokens-is _ ∙ sym (c1 .wide .ensures .0)) (c .if3 .left)
+    store-pass _ _ _ _ (c8 .off-rack-word .ensures) (c7 .if1 .left) _ (c6 .at-home .ensures) (c5 .if2 .left) (c4 .token-state .ensures) (c3 .held .ensures) (tokens-is _ ∙ sym (c1 .wide .ensures .0)) (c .if3 .left)
 
 pub store-check-spec : {M : Type 1} → statement M
 store-check-spec =

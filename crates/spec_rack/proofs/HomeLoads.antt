@@ -1,0 +1,246 @@
+-- A load is decided by its lines other than 4, which are document 01's; and it changes nothing, so that one which is answered now leaves what the refused
+-- one left. From one step to lists by induction.
+use Prim.Native.Nat.{ℕ, _≤_, _<_}
+use native.Mathlib.Omega.{arith}
+use mathlib.Core.Path.{_≡_, refl, sym, ap, _∙_, subst}
+use mathlib.Core.Logic.{⊎-elim}
+use mathlib.Core.Bool.{Bool, true, false, not, cond, _||_}
+use mathlib.Core.List.{List, [], _∷_}
+use borrow.Author.Tests.{ne-eqb}
+use lib.ListN.{length, getD}
+use lib.Dec.{eqb, leb, ltb}
+use Rattle.spec_base.specs.Number.{Bytes}
+use Rattle.spec_base.proofs.Tests.{differs, either}
+use Rattle.spec_wire.specs.declared.Refusal.{Refusal}
+use Rattle.spec_wire.specs.declared.Refusal.the-variants.{Unsound, OffRack, Home, NoToken, NoData}
+use Rattle.spec_wire.specs.declared.Check.{Check}
+use Rattle.spec_wire.specs.declared.Check.the-variants.{Pass, Refuse}
+use Rattle.spec_wire.specs.Refusals.{when_refuse_else_}
+use Rattle.spec_wire.proofs.RefusalTable.{table}
+use Rattle.spec_wire.specs.declared.Step.{Step}
+use Rattle.spec_wire.specs.declared.Step.the-variants.{Load, Store, Send, Deliver, Raise, Lower, Forward}
+use Rattle.spec_wire.specs.declared.Reading.{Reading}
+use Rattle.spec_wire.specs.declared.Reading.the-variants.{Step as Read, Refused as NoStep}
+use Rattle.spec_wire.specs.Reader.{readRecord}
+use Rattle.spec_rack.specs.declared.Answer.{Answer}
+use Rattle.spec_rack.specs.declared.Answer.the-variants.{Word}
+use Rattle.spec_rack.specs.declared.Reply.{Reply}
+use Rattle.spec_rack.specs.declared.Reply.the-variants.{Accepted, Refused}
+use Rattle.spec_rack.specs.Rack.{Cell, Rack, cellAt, held}
+use Rattle.spec_rack.specs.Rules.{Outcome, refused, settled, check, after, answer, rules, offRack, pastWords, reply, rackAfter}
+use Rattle.spec_rack.specs.Letter.{letterCheck, letterOf, lettered, letter}
+use Rattle.spec_rack.specs.RecordLayout.{get, put}
+use Rattle.spec_rack.specs.Soundness.{soundBytes}
+use Rattle.spec_rack.specs.Entries.{bufferAfterOutcome, outcomeBy, stepReply, stepAfter}
+use Rattle.spec_rack.specs.Lists.{runAll, ruledReply, ruledAfter}
+use Rattle.spec_rack.specs.HomeLoads.{checkBefore, rulesBefore, ruledReplyBefore, ruledAfterBefore, stepReplyBefore, stepAfterBefore, isHomeLoad, isHomeLoadIn, OrdinaryLoad, SameList, SameOnRacks, SameOnBytes, StillRefused}
+use Rattle.spec_rack.proofs.GetPut.{put-get}
+use Rattle.spec_rack.proofs.SoundRecord.{live-of}
+use Rattle.spec_rack.proofs.ByteLists.{runs}
+use Rattle.spec_rack.proofs.Effects.{every-list}
+
+-- ---- one load, with the line of home and without it
+
+-- what is said of both, where `rest` has the lines below
+module _ (rest : Check) (a : Answer) (r : Rack) where
+  still-accepted : (off home : Bool) (a′ : Answer)
+      → reply (settled (when off refuse OffRack else when home refuse Home else rest) a r) ≡ Accepted a′
+      → reply (settled (when off refuse OffRack else rest) a r) ≡ Accepted a′
+  unfolding when_refuse_else_
+  still-accepted true home a′ e = e
+  still-accepted false true a′ e = cc
+  still-accepted false false a′ e = e
+
+  same-away : (off home : Bool) → home ≡ false
+      → settled (when off refuse OffRack else rest) a r ≡ settled (when off refuse OffRack else when home refuse Home else rest) a r
+  unfolding when_refuse_else_
+  same-away off true e = differs e
+  same-away off false e = refl
+
+-- a load leaves the rack, whatever its lines say
+leaves : (k : Check) (a : Answer) (r : Rack) → rackAfter r (settled k a r) ≡ r
+leaves Pass a r = refl
+leaves (Refuse n) a r = refl
+
+-- ---- one step, on a rack
+
+step-left : (r : Rack) (s : Step) → ruledAfter r s ≡ ruledAfterBefore r s
+unfolding rules after
+step-left r (Load c b w) =
+    leaves (check r (Load c b w)) (answer r (Load c b w)) r ∙ sym (leaves (checkBefore r (Load c b w)) (answer r (Load c b w)) r)
+step-left r (Store c b w v) = refl
+step-left r (Send c b t p o d) = refl
+step-left r (Deliver i) = refl
+step-left r (Raise c b) = refl
+step-left r (Lower c b) = refl
+step-left r (Forward c b) = refl
+
+step-answered : (r : Rack) (s : Step) (a : Answer) → ruledReplyBefore r s ≡ Accepted a → ruledReply r s ≡ Accepted a
+unfolding rules check after
+step-answered r (Load c b w) a e = still-accepted _ (answer r (Load c b w)) r (offRack r c b || pastWords w) (eqb c 0) a e
+step-answered r (Store c b w v) a e = e
+step-answered r (Send c b t p o d) a e = e
+step-answered r (Deliver i) a e = e
+step-answered r (Raise c b) a e = e
+step-answered r (Lower c b) a e = e
+step-answered r (Forward c b) a e = e
+
+step-other : (r : Rack) (s : Step) → isHomeLoad s ≡ false → rules r s ≡ rulesBefore r s
+unfolding rules check after
+step-other r (Load c b w) e = same-away _ (answer r (Load c b w)) r (offRack r c b || pastWords w) (eqb c 0) e
+step-other r (Store c b w v) e = refl
+step-other r (Send c b t p o d) e = refl
+step-other r (Deliver i) e = refl
+step-other r (Raise c b) e = refl
+step-other r (Lower c b) e = refl
+step-other r (Forward c b) e = refl
+
+-- ---- a load at home, by the ordinary rule
+
+-- the lines of a load and its word, by whether it is off the rack and by its cell
+abbrev lines : Bool → Cell → ℕ → Check
+lines off x w = when off || pastWords w refuse OffRack else when eqb (held x) 0 refuse NoToken else when not (x .valid) refuse NoData else Pass
+
+abbrev word : Cell → ℕ → Answer
+word x w = Word (getD (x .words) w 0)
+
+-- a reply does not tell the rack that is left
+any-rack : (k : Check) (a : Answer) (r r′ : Rack) → reply (settled k a r) ≡ reply (settled k a r′)
+any-rack Pass a r r′ = refl
+any-rack (Refuse n) a r r′ = refl
+
+pub ordinary-load : OrdinaryLoad
+unfolding rules check answer after
+ordinary-load r r′ b b′ c w board off same =
+    (λ i. reply (settled (lines (off i) (same i) w) (word (same i) w) r))
+    ∙ any-rack (lines (offRack r′ c b′) (cellAt r′ b′ c) w) (word (cellAt r′ b′ c) w) r r′
+    ∙ ap reply (step-other r′ (Load c b′ w) (ne-eqb c 0 board))
+
+-- ---- from one item to lists
+
+module _ {S I : Type 0} (after before : S → I → S) (reply replyBefore : S → I → Reply) (homeLoad : I → Bool)
+    (P : S → Type 0) (kept : (s : S) (x : I) → P s → P (after s x))
+    (left : (s : S) (x : I) → P s → after s x ≡ before s x)
+    (answered : (s : S) (x : I) (a : Answer) → replyBefore s x ≡ Accepted a → reply s x ≡ Accepted a)
+    (other : (s : S) (x : I) → homeLoad x ≡ false → reply s x ≡ replyBefore s x) where
+  same-list : (items : List I) (s : S) → P s → SameList after before reply replyBefore homeLoad s items
+  unfolding runAll
+  same-list [] s ok = record { state = refl; answered = answered s; others = other s }
+  same-list (x ∷ xs) s ok =
+      let rest = same-list xs (after s x) (kept s x ok) in
+      let same = left s x ok in
+      record {
+        state = rest .state ∙ ap (λ (q : S). runAll before q xs) same;
+        answered = λ y a e. rest .answered y a (subst (λ (q : S). replyBefore (runAll before q xs) y ≡ Accepted a) (sym same) e);
+        others = λ y e. rest .others y e ∙ ap (λ (q : S). replyBefore (runAll before q xs) y) same;
+      }
+
+pub same-on-racks : SameOnRacks
+same-on-racks r ss =
+    same-list ruledAfter ruledAfterBefore ruledReply ruledReplyBefore isHomeLoad (λ _. Unit {0}) (λ _ _ _. tt) (λ q s _. step-left q s) step-answered
+    (λ q s e. ap reply (step-other q s e)) ss r tt
+
+-- ---- byte strings
+
+-- to write the rack that is there changes nothing
+writes-nothing : (s : List ℕ) → put (get s) s ≡ s → (k : Check) (a : Answer) → bufferAfterOutcome s (settled k a (get s)) ≡ s
+writes-nothing s same Pass a = same
+writes-nothing s same (Refuse n) a = refl
+
+module _ (s : List ℕ) where
+  step-writes : put (get s) s ≡ s → (t : Step) → bufferAfterOutcome s (rules (get s) t) ≡ bufferAfterOutcome s (rulesBefore (get s) t)
+  unfolding rules after
+  step-writes same (Load c b w) =
+      writes-nothing s same (check (get s) (Load c b w)) (answer (get s) (Load c b w))
+      ∙ sym (writes-nothing s same (checkBefore (get s) (Load c b w)) (answer (get s) (Load c b w)))
+  step-writes same (Store c b w v) = refl
+  step-writes same (Send c b t p o d) = refl
+  step-writes same (Deliver i) = refl
+  step-writes same (Raise c b) = refl
+  step-writes same (Lower c b) = refl
+  step-writes same (Forward c b) = refl
+
+  by-reading : (k : Reading) → (soundBytes s ≡ true → put (get s) s ≡ s)
+      → bufferAfterOutcome s (outcomeBy rules k s) ≡ bufferAfterOutcome s (outcomeBy rulesBefore k s)
+  by-reading (NoStep n) same = refl
+  by-reading (Read t) same = go (soundBytes s) refl
+    where
+      go : (u : Bool) → soundBytes s ≡ u
+          → bufferAfterOutcome s (cond u (rules (get s) t) (refused Unsound)) ≡ bufferAfterOutcome s (cond u (rulesBefore (get s) t) (refused Unsound))
+      go true e = step-writes (same e) t
+      go false e = refl
+
+  reading-answered : (k : Reading) (a : Answer) → reply (outcomeBy rulesBefore k s) ≡ Accepted a → reply (outcomeBy rules k s) ≡ Accepted a
+  reading-answered (NoStep n) a e = e
+  reading-answered (Read t) a e = go (soundBytes s) e
+    where
+      go : (u : Bool) → reply (cond u (rulesBefore (get s) t) (refused Unsound)) ≡ Accepted a → reply (cond u (rules (get s) t) (refused Unsound)) ≡ Accepted a
+      go true e = step-answered (get s) t a e
+      go false e = e
+
+  reading-other : (k : Reading) → isHomeLoadIn k ≡ false → reply (outcomeBy rules k s) ≡ reply (outcomeBy rulesBefore k s)
+  reading-other (NoStep n) e = refl
+  reading-other (Read t) e = ap (λ (o : Outcome). reply (cond (soundBytes s) o (refused Unsound))) (step-other (get s) t e)
+
+bytes-left : (s bytes : List ℕ) → Bytes s → stepAfter s bytes ≡ stepAfterBefore s bytes
+unfolding stepAfter
+bytes-left s bytes ok = by-reading s (readRecord bytes) (λ sound. put-get s (live-of s ok sound .wellFormed))
+
+bytes-answered : (s bytes : List ℕ) (a : Answer) → stepReplyBefore s bytes ≡ Accepted a → stepReply s bytes ≡ Accepted a
+unfolding stepReply
+bytes-answered s bytes a = reading-answered s (readRecord bytes) a
+
+bytes-other : (s bytes : List ℕ) → isHomeLoadIn (readRecord bytes) ≡ false → stepReply s bytes ≡ stepReplyBefore s bytes
+unfolding stepReply
+bytes-other s bytes = reading-other s (readRecord bytes)
+
+-- what a step leaves are bytes
+bytes-kept : (s bytes : List ℕ) → Bytes s → Bytes (stepAfter s bytes)
+unfolding runAll
+bytes-kept s bytes ok =
+    ⊎-elim
+    (λ (sound : soundBytes s ≡ true). runs (bytes ∷ []) s (live-of s ok sound) .live .wellFormed .bytes)
+    (λ (bad : soundBytes s ≡ false). subst Bytes (sym (every-list s (bytes ∷ []) ok .if-unsound bad)) ok)
+    (either (soundBytes s))
+
+pub same-on-bytes : SameOnBytes
+same-on-bytes s steps ok =
+    same-list stepAfter stepAfterBefore stepReply stepReplyBefore (λ bytes. isHomeLoadIn (readRecord bytes)) Bytes bytes-kept bytes-left bytes-answered bytes-other
+    steps s ok
+
+-- ---- what home is still refused
+
+module _ (r : Rack) (b : ℕ) (known : b < length (r .blocks)) where
+  some : 0 ≤ r .boards
+  some = omega arith
+
+  store-home : (w v : ℕ) → w < 8 → Refuse Home ≡ check r (Store 0 b w v)
+  unfolding check
+  store-home w v low = search (table, some) depth 10
+
+  raise-home : Refuse Home ≡ check r (Raise 0 b)
+  unfolding check
+  raise-home = search (table, some) depth 10
+
+  lower-home : Refuse Home ≡ check r (Lower 0 b)
+  unfolding check
+  lower-home = search (table, some) depth 10
+
+  letter-home : Refuse Home ≡ letterCheck r 0 b
+  unfolding letterCheck
+  letter-home = search (table, some) depth 10
+
+-- a step whose check refuses it is refused
+refused-with : {n : Refusal} (r : Rack) (s : Step) → Refuse n ≡ check r s → ruledReply r s ≡ Refused n
+unfolding rules
+refused-with r s e = ap (λ (k : Check). reply (settled k (answer r s) (after r s))) (sym e)
+
+pub still-refused : StillRefused
+unfolding letter
+still-refused =
+    record {
+      store = λ r b w v known low. refused-with r (Store 0 b w v) (store-home r b known w v low);
+      raise = λ r b known. refused-with r (Raise 0 b) (raise-home r b known);
+      lower = λ r b known. refused-with r (Lower 0 b) (lower-home r b known);
+      letter-at-home = λ r b known. ap (λ (k : Check). lettered k (letterOf (r .tokens) (cellAt r b 0))) (sym (letter-home r b known));
+    }
