@@ -62,7 +62,7 @@ static inline uint32_t hyl_block_of(uint64_t result)
 /* The refusals, by document 01's numbers. HYL_TORN (1) and HYL_SHORT_BUFFER (20) are in hyaloneth_wire.h. */
 #define HYL_UNSOUND 2u      /* buffer too short for a record, or record not sound */
 #define HYL_OFF_RACK 3u     /* component above N, block not below B, word above 7, target above N */
-#define HYL_HOME 4u         /* load, store, raise, lower or letter at component 0 */
+#define HYL_HOME 4u         /* store, raise, lower or letter at component 0 */
 #define HYL_NO_TOKEN 5u     /* load or forward, nothing held */
 #define HYL_NO_DATA 6u      /* load with tokens, not valid; send with data, not valid */
 #define HYL_SHORT 7u        /* store, held below T */
@@ -99,8 +99,9 @@ uint64_t hyl_open(uint8_t *rec, size_t rec_len, uint32_t boards, uint32_t blocks
  *   rec, rec_len    the buffer that holds the record
  *   step, step_len  the bytes of the step record, all of them
  * HYL_WORD_GIVEN with the word for a load, HYL_SERVED with the target and the block of its message for a deliver, HYL_DONE for any other step;
- * refused with HYL_TORN, then HYL_UNSOUND, then by the step's own lines of the refusal table in document 01's order. Whether the record is sound is
- * decided anew at each call: see hyl_run for many steps. */
+ * refused with HYL_TORN, then HYL_UNSOUND, then by the step's own lines of the refusal table in document 01's order. A load is answered at home,
+ * component 0, as at a board: it is refused with HYL_OFF_RACK, HYL_NO_TOKEN or HYL_NO_DATA, in that order, and never with HYL_HOME. Whether the
+ * record is sound is decided anew at each call: see hyl_run for many steps. */
 uint64_t hyl_step(uint8_t *rec, size_t rec_len, const uint8_t *step, size_t step_len);
 
 /* Gives the step records that stand one behind the other in a list, as so many calls of hyl_step would, but decides once whether the record is

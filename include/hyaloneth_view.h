@@ -175,7 +175,7 @@ static inline uint32_t hyl_view_held(const uint8_t *rec, uint32_t component, uin
     return hyl_view_plain(rec, component, block) + hyl_view_owner(rec, component, block);
 }
 
-/* 1 where its words are valid, else 0. */
+/* 1 where its words are valid, else 0. A load of them is answered exactly where it is 1, at home too. */
 static inline uint32_t hyl_view_valid(const uint8_t *rec, uint32_t component, uint32_t block)
 {
     return rec[hyl_view_block_at(block) + HYL_VIEW_VALID_AT + component];

@@ -29,7 +29,7 @@ extern "C" {
 #define HYL_LOWER 0x15u   /* component, block */
 #define HYL_FORWARD 0x16u /* component, block */
 
-/* The places: the tags of the fields. A value is 0 to 255 unless said. */
+/* The places: the tags of the fields. A value is 0 to 255 unless said. Component and target are 0 for home. */
 #define HYL_COMPONENT 1
 #define HYL_BLOCK 2
 #define HYL_WORD 3

@@ -216,6 +216,34 @@ mod tests {
     }
 
     #[test]
+    fn the_engine_packs_loads_at_home() {
+        let refused = |number: u64| 0x0100_0000_0000_0000 | number;
+        let word = |word: u64| 0x0200_0000_0000_0000 | word;
+        packs(
+            include_str!("../../traces/home_loads.trace"),
+            &[
+                word(0),
+                0,
+                refused(5),
+                0x0401_0000_0000_0000,
+                0,
+                0,
+                0x0400_0000_0000_0000,
+                refused(6),
+                0,
+                0x0400_0000_0000_0000,
+                word(5),
+                refused(4),
+                refused(4),
+                refused(4),
+                refused(3),
+                refused(3),
+                refused(3),
+            ],
+        );
+    }
+
+    #[test]
     fn the_engine_packs_whom_a_deliver_served() {
         packs(
             include_str!("../../traces/served.trace"),

@@ -22,7 +22,7 @@ pub enum Refusal {
     Unsound = 2,
     /// 3: component above N, block not below B, word above 7, or target above N.
     OffRack = 3,
-    /// 4: load, store, raise, lower or letter at component 0.
+    /// 4: store, raise, lower or letter at component 0. A load there is answered as at a board.
     Home = 4,
     /// 5: load or forward with nothing held.
     NoToken = 5,

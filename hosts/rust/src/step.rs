@@ -20,9 +20,27 @@ use crate::Refusal;
 /// ```
 #[derive(Clone, Copy, Debug, PartialEq, Eq, Hash)]
 pub enum Step {
-    /// Gives a word.
+    /// Gives a word and changes nothing.
+    ///
+    /// Refused with [`Refusal::OffRack`], [`Refusal::NoToken`] or [`Refusal::NoData`], in that
+    /// order, at home as at a board:
+    ///
+    /// ```
+    /// use hyaloneth::{Record, Refusal, Reply, Step};
+    ///
+    /// let mut buffer = [0; Record::LONGEST];
+    /// let mut rack = Record::open(&mut buffer, 2, 1, 3)?;
+    /// let load = Step::Load { component: 0, block: 0, word: 7 };
+    /// assert_eq!(rack.step(&load), Ok(Reply::Word(0)));
+    ///
+    /// // Home gives all its tokens to board 1.
+    /// rack.step(&Step::Raise { component: 1, block: 0 })?;
+    /// rack.step(&Step::Forward { component: 0, block: 0 })?;
+    /// assert_eq!(rack.step(&load), Err(Refusal::NoToken));
+    /// # Ok::<(), Refusal>(())
+    /// ```
     Load {
-        /// The board that loads.
+        /// The component that loads, 0 for home.
         component: u32,
         /// The block.
         block: u32,

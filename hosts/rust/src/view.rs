@@ -32,7 +32,7 @@ pub struct Cell {
     pub plain: u32,
     /// Whether it holds the owner.
     pub owner: bool,
-    /// Whether its words are valid.
+    /// Whether its words are valid. A load of them is answered exactly then, at home too.
     pub valid: bool,
     /// Its words, which stay when the tokens leave.
     pub words: [u32; 8],

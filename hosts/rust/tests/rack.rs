@@ -1,4 +1,5 @@
-//! The examples of document 01 and the edges of the wrapper, over the proved archives.
+//! The examples of document 01 and of request 7, and the edges of the wrapper, over the proved
+//! archives.
 
 use hyaloneth::script::reply_text;
 use hyaloneth::Refusal::*;
@@ -36,11 +37,26 @@ impl Rack {
         assert_eq!(self.step(deliver), Ok(Reply::Served { component, block: 0 }), "{deliver}");
     }
 
-    /// The step is refused with this, and no byte of the buffer changes.
-    fn refused(&mut self, step: Step, refusal: Refusal) {
+    /// The step gives this, by itself and as a list, and no byte of the buffer changes.
+    fn unchanged(&mut self, step: Step, answer: Result<Reply, Refusal>) {
         let before = self.0.clone();
-        assert_eq!(self.step(step), Err(refusal), "{step}");
+        assert_eq!(self.step(step), answer, "{step}");
         assert_eq!(self.0, before, "{step}");
+        // A number outside its field has no bytes.
+        if let Ok(list) = step.to_bytes() {
+            let mut answers = Vec::new();
+            self.record().run(&list, |answer| answers.push(answer));
+            assert_eq!(answers, [answer], "{step}");
+            assert_eq!(self.0, before, "{step}");
+        }
+    }
+
+    fn refused(&mut self, step: Step, refusal: Refusal) {
+        self.unchanged(step, Err(refusal));
+    }
+
+    fn loaded(&mut self, load: Step, word: u32) {
+        self.unchanged(load, Ok(Reply::Word(word)));
     }
 
     fn letter(&mut self, board: u32) -> Result<Letter, Refusal> {
@@ -100,7 +116,7 @@ fn w2_to_w4_stores_need_all_tokens_and_loads_data() {
 
     rack.refused(store(1), Short);
     assert_eq!(rack.letter(1), Ok(Letter::Owned));
-    assert_eq!(rack.step(load(1)), Ok(Reply::Word(1)));
+    rack.loaded(load(1), 1);
 }
 
 #[test]
@@ -179,9 +195,6 @@ fn the_other_refusals() {
     rack.refused(Load { component: 1, block: 1, word: 0 }, OffRack);
     rack.refused(Load { component: 1, block: 0, word: 8 }, OffRack);
     rack.refused(send(0, 3, 1, false, false), OffRack);
-    for step in [load(0), store(0), raise(0), lower(0)] {
-        rack.refused(step, Home);
-    }
     rack.refused(send(0, 0, 1, false, false), SelfTarget);
     rack.refused(send(1, 2, 0, true, true), NotHeld);
     rack.refused(send(0, 1, 255, false, false), NotHeld);
@@ -203,6 +216,68 @@ fn the_other_refusals() {
     rack.done(send(1, 2, 1, false, false));
     rack.served(OLDEST, 2);
     rack.refused(send(2, 1, 1, false, true), NoData);
+}
+
+/// A load at home gives this, and the view says whether it is answered. Whatever home holds, stores,
+/// raises, lowers and the letter there are refused with 4, before their own lines; 3 comes first.
+fn at_home(rack: &mut Rack, load_gives: Result<u32, Refusal>) {
+    rack.unchanged(load(0), load_gives.map(Reply::Word));
+    let valid = rack.record().view().unwrap().cell(0, 0).unwrap().valid;
+    assert_eq!(valid, load_gives.is_ok());
+    for step in [store(0), raise(0), lower(0)] {
+        rack.refused(step, Home);
+    }
+    assert_eq!(rack.letter(0), Err(Home));
+    let component = 0;
+    for step in [
+        Load { component, block: 1, word: 0 },
+        Load { component, block: 0, word: 8 },
+        Store { component, block: 1, word: 0, value: 1 },
+        Store { component, block: 0, word: 8, value: 1 },
+        Raise { component, block: 1 },
+        Lower { component, block: 1 },
+    ] {
+        rack.refused(step, OffRack);
+    }
+}
+
+#[test]
+fn a_load_at_home_needs_a_token_and_data() {
+    let mut rack = Rack::new();
+    at_home(&mut rack, Ok(0));
+    rack.done(send(0, 1, 2, true, true));
+    at_home(&mut rack, Err(NoToken));
+    rack.served(OLDEST, 1);
+    rack.done(Store { component: 1, block: 0, word: 0, value: 5 });
+    rack.done(send(1, 0, 1, false, false));
+    rack.served(OLDEST, 0);
+    at_home(&mut rack, Err(NoData));
+    rack.done(send(1, 0, 1, true, true));
+    rack.served(OLDEST, 0);
+    at_home(&mut rack, Ok(5));
+    rack.refused(load(1), NoToken);
+}
+
+#[test]
+fn a_load_at_home_gives_the_words_that_came_home() {
+    let mut rack = Rack::of(2, 2, 3);
+    let block = 1;
+    rack.done(Raise { component: 2, block });
+    // A claim stops no load.
+    rack.loaded(Load { component: 0, block, word: 0 }, 0);
+    rack.done(Forward { component: 0, block });
+    assert_eq!(rack.step(OLDEST), Ok(Reply::Served { component: 2, block }));
+    for word in 0..8 {
+        rack.done(Store { component: 2, block, word, value: 100 + word });
+    }
+    rack.done(Lower { component: 2, block });
+    rack.done(Send { component: 2, block, target: 0, plain: 1, owner: false, data: true });
+    assert_eq!(rack.step(OLDEST), Ok(Reply::Served { component: 0, block }));
+    for word in 0..8 {
+        rack.loaded(Load { component: 0, block, word }, 100 + word);
+        rack.loaded(Load { component: 2, block, word }, 100 + word);
+        rack.loaded(Load { component: 0, block: 0, word }, 0);
+    }
 }
 
 #[test]
@@ -293,6 +368,7 @@ fn buffers_that_are_too_short() {
         let mut buffer = vec![2; len];
         let mut rack = Record::over(&mut buffer);
         assert_eq!(rack.step(&OLDEST), Err(Unsound));
+        assert_eq!(rack.step(&load(0)), Err(Unsound));
         assert_eq!(rack.step_bytes(&[]), Err(Torn));
         assert_eq!(rack.letter(1, 0), Err(Unsound));
         assert_eq!(rack.view().err(), Some(Unsound));

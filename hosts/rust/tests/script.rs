@@ -145,6 +145,7 @@ fn forms_of_the_same_step() {
     same("send home block 0 -> 1 owner data", "send 0 block 0 -> 1 plain 0 owner data");
     same("send 1 block 0->home plain 1", "send 1 block 0 -> 0 plain 1");
     same("forward home block 0x1f", "forward 0 block 31");
+    same("load home block 0 word 0", "load 0 block 0 word 0");
     same("store 1 block 0 word 0=42", "store 1 block 0 word 0 = 0x2A");
     same("deliver 007", "deliver 7");
     same("bytes 13 00 04 09 00 01\n + 00", "deliver 0");
@@ -153,6 +154,17 @@ fn forms_of_the_same_step() {
     assert_eq!(assemble("\n# nothing\n"), Ok(vec![]));
     assert_eq!(assemble("bytes 02"), Ok(vec![2]));
     assert_eq!(assemble("bytes 02\n+ 01"), Ok(vec![2, 1]));
+}
+
+#[test]
+fn a_load_at_home_comes_back() {
+    let script = "rack 2 boards 1 block 3 tokens\nload home block 0 word 0\n";
+    let bytes = assemble(script).unwrap();
+    let load = Step::Load { component: 0, block: 0, word: 0 };
+    assert_eq!(Step::from_bytes(&bytes[3..]), Ok(load));
+    assert_eq!(load.to_string(), "load 0 block 0 word 0");
+    assert_eq!(disassemble(&bytes), script.replace("home", "0"));
+    round_trip(&bytes);
 }
 
 #[test]
