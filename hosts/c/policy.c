@@ -19,6 +19,9 @@
 /* A damaged record may be one byte longer. */
 #define STEP_ROOM (HYL_WIRE_LONGEST + 1)
 
+/* The component where the tape writer reads. */
+#define HOME 0
+
 /* Numbers that a seed decides. */
 static uint64_t dice;
 
@@ -79,10 +82,10 @@ static bool valid(uint32_t component, uint32_t block)
     return hyl_view_valid(rec, component, block) != 0;
 }
 
-/* A memory without components, tokens or messages: what the loads of a coherent rack give. */
+/* A memory without components, tokens or messages: what the loads of a coherent rack give. Its counts are for the report. */
 static struct {
     uint32_t words[32][8];
-    unsigned loads, stores, wrong;
+    unsigned loads, home_loads, stores, wrong;
 } memory;
 
 /* The flat memory takes an accepted step. Its numbers are on the rack, since it was accepted. */
@@ -95,6 +98,7 @@ static void take(const uint8_t *step, size_t step_len, uint64_t result)
         printf("WRONG: a torn step was accepted\n");
     } else if (n[0] == HYL_LOAD) {
         memory.loads++;
+        memory.home_loads += n[HYL_COMPONENT] == HOME;
         if (HYL_KIND(result) != HYL_WORD_GIVEN || memory.words[n[HYL_BLOCK]][n[HYL_WORD]] != HYL_WORD_OF(result)) {
             memory.wrong++;
             printf("WRONG: load %" PRIu32 " block %" PRIu32 " word %" PRIu32 " gave 0x%" PRIx32 "\n", n[HYL_COMPONENT], n[HYL_BLOCK], n[HYL_WORD],
@@ -226,12 +230,12 @@ static uint32_t source(uint32_t reader, uint32_t block)
     return best;
 }
 
-/* A board reads an unclaimed block. Every token here travels with the words, so who is served with the block can read it. Messages that the reader
- * need not wait for stay in flight. */
-static void read_turn(uint32_t block)
+/* A board, or the tape writer at home, reads an unclaimed block. Every token here travels with the words, so who is served with the block can read
+ * it. Messages that the reader need not wait for stay in flight. */
+static void read_turn(uint32_t reader, uint32_t block)
 {
     uint8_t step[STEP_ROOM];
-    uint32_t reader = 1 + draw(hyl_view_boards(rec)), from, times;
+    uint32_t from, times;
 
     if (!valid(reader, block)) {
         from = source(reader, block);
@@ -252,7 +256,7 @@ static void read_turn(uint32_t block)
         must(step, hyl_wire_write_load(step, sizeof step, 0, reader, block, draw(8)));
 }
 
-/* Boards take turns; no step but a raise is ever refused. Gives the number of wrong loads. */
+/* Boards and the tape writer take turns; no step but a raise is ever refused. Gives the number of wrong loads. */
 static unsigned take_turns(uint64_t seed, uint32_t boards, uint32_t blocks, uint32_t tokens)
 {
     int round;
@@ -264,15 +268,22 @@ static unsigned take_turns(uint64_t seed, uint32_t boards, uint32_t blocks, uint
     seed_dice(seed);
     for (round = 0; round < ROUNDS; round++) {
         uint32_t block = draw(blocks);
-        if (draw(2) == 0)
+        switch (draw(3)) {
+        case 0:
             write_turn(block);
-        else
-            read_turn(block);
+            break;
+        case 1:
+            read_turn(1 + draw(boards), block);
+            break;
+        default:
+            read_turn(HOME, block);
+            break;
+        }
     }
     close_rack();
     printf("turns: boards %" PRIu32 ", blocks %" PRIu32 ", tokens %" PRIu32
-           ": %u steps, %u stores, %u loads; raises refused: %u waiting, %u barred\n",
-           boards, blocks, tokens, steps, memory.stores, memory.loads, waiting, barred);
+           ": %u steps, %u stores, %u loads (%u at home); raises refused: %u waiting, %u barred\n",
+           boards, blocks, tokens, steps, memory.stores, memory.loads, memory.home_loads, waiting, barred);
     return memory.wrong;
 }
 
@@ -385,7 +396,7 @@ static unsigned be_foolish(uint64_t seed)
     };
     static uint8_t list[LIST_STEPS * STEP_ROOM];
     unsigned refused[21] = {0};
-    unsigned accepted = 0, loads = 0, stores = 0, wrong = 0, number;
+    unsigned accepted = 0, loads = 0, home_loads = 0, stores = 0, wrong = 0, number;
     int rack, lists, i;
 
     seed_dice(seed);
@@ -425,10 +436,12 @@ static unsigned be_foolish(uint64_t seed)
         }
         wrong += memory.wrong + wrong_totals();
         loads += memory.loads;
+        home_loads += memory.home_loads;
         stores += memory.stores;
         close_rack();
     }
-    printf("foolish: %d racks: %u steps accepted, of them %u stores, %u loads; refused:\n", FOOLISH_RACKS, accepted, stores, loads);
+    printf("foolish: %d racks: %u steps accepted, of them %u stores, %u loads (%u at home); refused:\n", FOOLISH_RACKS, accepted, stores, loads,
+           home_loads);
     for (number = 1; number <= 20; number++)
         if (refused[number] > 0)
             printf("  %2u %-12s %u\n", number, word[number], refused[number]);

@@ -13,6 +13,9 @@ const FOOLISH_STEPS: u32 = 2_000;
 const LIST_STEPS: u32 = 64;
 const REPLIES: usize = 24;
 
+/// The component where the tape writer reads.
+const HOME: u32 = 0;
+
 /// Numbers that a seed decides.
 struct Dice(u64);
 
@@ -39,24 +42,27 @@ impl Dice {
     }
 }
 
-/// A memory without components, tokens or messages: what the loads of a coherent rack give.
+/// A memory without components, tokens or messages: what the loads of a coherent rack give. Its
+/// counts are for the report.
 struct FlatMemory {
     words: [[u32; 8]; 32],
     loads: u32,
+    home_loads: u32,
     stores: u32,
     wrong: u32,
 }
 
 impl FlatMemory {
     fn new() -> FlatMemory {
-        FlatMemory { words: [[0; 8]; 32], loads: 0, stores: 0, wrong: 0 }
+        FlatMemory { words: [[0; 8]; 32], loads: 0, home_loads: 0, stores: 0, wrong: 0 }
     }
 
     /// Takes an accepted step. Its numbers are on the rack, since it was accepted.
     fn take(&mut self, step: Step, reply: Reply) {
         match (step, reply) {
-            (Step::Load { block, word, .. }, Reply::Word(value)) => {
+            (Step::Load { component, block, word }, Reply::Word(value)) => {
                 self.loads += 1;
+                self.home_loads += u32::from(component == HOME);
                 if self.words[block as usize][word as usize] != value {
                     self.wrong += 1;
                     println!("WRONG: {step} gave {value:#x}");
@@ -171,10 +177,10 @@ impl Turns<'_> {
         Ok(())
     }
 
-    /// A board reads an unclaimed block. Every token here travels with the words, so who is served
-    /// with the block can read it. Messages that the reader need not wait for stay in flight.
-    fn read_turn(&mut self, dice: &mut Dice, block: u32) -> Result<(), Refusal> {
-        let reader = 1 + dice.draw(self.view()?.boards());
+    /// A board, or the tape writer at home, reads an unclaimed block. Every token here travels with
+    /// the words, so who is served with the block can read it. Messages that the reader need not
+    /// wait for stay in flight.
+    fn read_turn(&mut self, dice: &mut Dice, reader: u32, block: u32) -> Result<(), Refusal> {
         if !self.is_valid(reader, block)? {
             // Without a source all tokens of the block are in flight.
             let component = match self.source(reader, block)? {
@@ -223,7 +229,8 @@ impl Turns<'_> {
     }
 }
 
-/// Boards take turns; no step but a raise is ever refused. Gives the number of wrong loads.
+/// Boards and the tape writer take turns; no step but a raise is ever refused. Gives the number of
+/// wrong loads.
 fn take_turns(seed: u64, boards: u32, blocks: u32, tokens: u32) -> Result<u32, Refusal> {
     let mut buffer = vec![0; Record::len_for(blocks)?];
     let rack = Record::open(&mut buffer, boards, blocks, tokens)?;
@@ -231,16 +238,24 @@ fn take_turns(seed: u64, boards: u32, blocks: u32, tokens: u32) -> Result<u32, R
     let mut dice = Dice::new(seed);
     for _ in 0..ROUNDS {
         let block = dice.draw(blocks);
-        if dice.draw(2) == 0 {
-            turns.write_turn(&mut dice, block)?;
-        } else {
-            turns.read_turn(&mut dice, block)?;
+        match dice.draw(3) {
+            0 => turns.write_turn(&mut dice, block)?,
+            1 => {
+                let reader = 1 + dice.draw(boards);
+                turns.read_turn(&mut dice, reader, block)?;
+            }
+            _ => turns.read_turn(&mut dice, HOME, block)?,
         }
     }
     println!(
-        "turns: boards {boards}, blocks {blocks}, tokens {tokens}: {} steps, {} stores, {} loads; \
-         raises refused: {} waiting, {} barred",
-        turns.steps, turns.memory.stores, turns.memory.loads, turns.waiting, turns.barred
+        "turns: boards {boards}, blocks {blocks}, tokens {tokens}: {} steps, {} stores, {} loads \
+         ({} at home); raises refused: {} waiting, {} barred",
+        turns.steps,
+        turns.memory.stores,
+        turns.memory.loads,
+        turns.memory.home_loads,
+        turns.waiting,
+        turns.barred
     );
     Ok(turns.memory.wrong)
 }
@@ -303,7 +318,7 @@ fn be_foolish(seed: u64) -> Result<u32, Refusal> {
     let mut dice = Dice::new(seed);
     let mut accepted = 0;
     let mut refused = [0; 21];
-    let (mut loads, mut stores, mut wrong) = (0, 0, 0);
+    let (mut loads, mut home_loads, mut stores, mut wrong) = (0, 0, 0, 0);
     for rack_number in 0..FOOLISH_RACKS {
         // A lazy rack delivers little and claims nothing, so that its mesh becomes full.
         let lazy = rack_number % 8 == 0;
@@ -341,11 +356,12 @@ fn be_foolish(seed: u64) -> Result<u32, Refusal> {
         }
         wrong += memory.wrong + wrong_totals(&rack.view()?);
         loads += memory.loads;
+        home_loads += memory.home_loads;
         stores += memory.stores;
     }
     println!(
         "foolish: {FOOLISH_RACKS} racks: {accepted} steps accepted, of them {stores} stores, \
-         {loads} loads; refused:"
+         {loads} loads ({home_loads} at home); refused:"
     );
     for refusal in Refusal::ALL {
         let count = refused[refusal.number() as usize];
