@@ -6,11 +6,11 @@ use mathlib.Core.Path.{_≡_, refl, sym, ap, _∙_, subst}
 use mathlib.Core.Logic.{⊎-elim}
 use mathlib.Core.Bool.{Bool, true, false, not, cond, _||_}
 use mathlib.Core.List.{List, [], _∷_}
-use borrow.Author.Tests.{ne-eqb}
+use borrow.Author.Tests.{ne-eqb, le-ltb, ltb-false, leb-false}
 use lib.ListN.{length, getD}
 use lib.Dec.{eqb, leb, ltb}
 use Rattle.spec_base.specs.Number.{Bytes}
-use Rattle.spec_base.proofs.Tests.{differs, either}
+use Rattle.spec_base.proofs.Tests.{differs, either, or-l, or-r, or-none}
 use Rattle.spec_wire.specs.declared.Refusal.{Refusal}
 use Rattle.spec_wire.specs.declared.Refusal.the-variants.{Unsound, OffRack, Home, NoToken, NoData}
 use Rattle.spec_wire.specs.declared.Check.{Check}
@@ -33,7 +33,9 @@ use Rattle.spec_rack.specs.RecordLayout.{get, put}
 use Rattle.spec_rack.specs.Soundness.{soundBytes}
 use Rattle.spec_rack.specs.Entries.{bufferAfterOutcome, outcomeBy, stepReply, stepAfter}
 use Rattle.spec_rack.specs.Lists.{runAll, ruledReply, ruledAfter}
-use Rattle.spec_rack.specs.HomeLoads.{checkBefore, rulesBefore, ruledReplyBefore, ruledAfterBefore, stepReplyBefore, stepAfterBefore, isHomeLoad, isHomeLoadIn, OrdinaryLoad, SameList, SameOnRacks, SameOnBytes, StillRefused}
+use Rattle.spec_rack.specs.HomeLoads.{checkBefore, rulesBefore, ruledReplyBefore, ruledAfterBefore, stepReplyBefore, stepAfterBefore, isHomeLoad, isHomeLoadIn, OrdinaryLoad, ValidLoads, SameList, SameOnRacks, SameOnBytes, StillRefused}
+use Rattle.spec_rack.proofs.SoundnessFacts.{sound-facts}
+use Rattle.spec_rack.proofs.BlockInvariant.{cell-sound}
 use Rattle.spec_rack.proofs.GetPut.{put-get}
 use Rattle.spec_rack.proofs.SoundRecord.{live-of}
 use Rattle.spec_rack.proofs.ByteLists.{runs}
@@ -64,36 +66,35 @@ leaves (Refuse n) a r = refl
 
 -- ---- one step, on a rack
 
-step-left : (r : Rack) (s : Step) → ruledAfter r s ≡ ruledAfterBefore r s
+-- what is true of a load's two outcomes, and of an outcome beside itself, is true of those of every step
+by-kind : (r : Rack) (P : Step → Outcome → Outcome → Type 0) → ((t : Step) (o : Outcome) → P t o o)
+    → ((c b w : ℕ) → P (Load c b w) (rules r (Load c b w)) (rulesBefore r (Load c b w))) → (t : Step) → P t (rules r t) (rulesBefore r t)
+unfolding rules
+by-kind r P same load (Load c b w) = load c b w
+by-kind r P same load (Store c b w v) = same (Store c b w v) _
+by-kind r P same load (Send c b t p o d) = same (Send c b t p o d) _
+by-kind r P same load (Deliver i) = same (Deliver i) _
+by-kind r P same load (Raise c b) = same (Raise c b) _
+by-kind r P same load (Lower c b) = same (Lower c b) _
+by-kind r P same load (Forward c b) = same (Forward c b) _
+
+step-left : (r : Rack) (t : Step) → ruledAfter r t ≡ ruledAfterBefore r t
 unfolding rules after
-step-left r (Load c b w) =
-    leaves (check r (Load c b w)) (answer r (Load c b w)) r ∙ sym (leaves (checkBefore r (Load c b w)) (answer r (Load c b w)) r)
-step-left r (Store c b w v) = refl
-step-left r (Send c b t p o d) = refl
-step-left r (Deliver i) = refl
-step-left r (Raise c b) = refl
-step-left r (Lower c b) = refl
-step-left r (Forward c b) = refl
+step-left r =
+    by-kind r (λ _ o o′. rackAfter r o ≡ rackAfter r o′) (λ _ o. refl)
+    (λ c b w. leaves (check r (Load c b w)) (answer r (Load c b w)) r ∙ sym (leaves (checkBefore r (Load c b w)) (answer r (Load c b w)) r))
 
-step-answered : (r : Rack) (s : Step) (a : Answer) → ruledReplyBefore r s ≡ Accepted a → ruledReply r s ≡ Accepted a
+step-answered : (r : Rack) (t : Step) (a : Answer) → ruledReplyBefore r t ≡ Accepted a → ruledReply r t ≡ Accepted a
 unfolding rules check after
-step-answered r (Load c b w) a e = still-accepted _ (answer r (Load c b w)) r (offRack r c b || pastWords w) (eqb c 0) a e
-step-answered r (Store c b w v) a e = e
-step-answered r (Send c b t p o d) a e = e
-step-answered r (Deliver i) a e = e
-step-answered r (Raise c b) a e = e
-step-answered r (Lower c b) a e = e
-step-answered r (Forward c b) a e = e
+step-answered r =
+    by-kind r (λ _ o o′. (a : Answer) → reply o′ ≡ Accepted a → reply o ≡ Accepted a) (λ _ o a e. e)
+    (λ c b w. still-accepted _ (answer r (Load c b w)) r (offRack r c b || pastWords w) (eqb c 0))
 
-step-other : (r : Rack) (s : Step) → isHomeLoad s ≡ false → rules r s ≡ rulesBefore r s
+step-other : (r : Rack) (t : Step) → isHomeLoad t ≡ false → rules r t ≡ rulesBefore r t
 unfolding rules check after
-step-other r (Load c b w) e = same-away _ (answer r (Load c b w)) r (offRack r c b || pastWords w) (eqb c 0) e
-step-other r (Store c b w v) e = refl
-step-other r (Send c b t p o d) e = refl
-step-other r (Deliver i) e = refl
-step-other r (Raise c b) e = refl
-step-other r (Lower c b) e = refl
-step-other r (Forward c b) e = refl
+step-other r =
+    by-kind r (λ t o o′. isHomeLoad t ≡ false → o ≡ o′) (λ _ o _. refl)
+    (λ c b w. same-away _ (answer r (Load c b w)) r (offRack r c b || pastWords w) (eqb c 0))
 
 -- ---- a load at home, by the ordinary rule
 
@@ -115,6 +116,30 @@ ordinary-load r r′ b b′ c w board off same =
     (λ i. reply (settled (lines (off i) (same i) w) (word (same i) w) r))
     ∙ any-rack (lines (offRack r′ c b′) (cellAt r′ b′ c) w) (word (cellAt r′ b′ c) w) r r′
     ∙ ap reply (step-other r′ (Load c b′ w) (ne-eqb c 0 board))
+
+-- ---- by the valid mark, which is only where a token is held
+
+by-valid : (r : Rack) (a : Answer) (off none valid : Bool) → off ≡ false → (valid ≡ true → none ≡ false)
+    → reply (settled (when off refuse OffRack else when none refuse NoToken else when not valid refuse NoData else Pass) a r)
+    ≡ cond valid (Accepted a) (Refused (cond none NoToken NoData))
+unfolding when_refuse_else_
+by-valid r a true none valid on token = differs on
+by-valid r a false true true on token = differs (token refl)
+by-valid r a false true false on token = refl
+by-valid r a false false true on token = refl
+by-valid r a false false false on token = refl
+
+pub valid-loads : ValidLoads
+unfolding rules check answer after
+valid-loads r c b w ok on low =
+    by-valid r _ _ (eqb (held (cellAt r b c)) 0) (cellAt r b c .valid) (or-none _ _ on (le-ltb 7 w (omega arith)))
+    (λ valid. ne-eqb _ 0 (λ (none : held (cellAt r b c) ≡ 0). let some : 0 < held (cellAt r b c) = cell-sound r (sound-facts r ok) b c inB inN .token valid in absurd (omega arith)))
+  where
+    inN : c ≤ r .boards
+    inN = ltb-false _ _ (or-l (ltb (r .boards) c) (leb (length (r .blocks)) b) on)
+
+    inB : b < length (r .blocks)
+    inB = leb-false _ _ (or-r (ltb (r .boards) c) (leb (length (r .blocks)) b) on)
 
 -- ---- from one item to lists
 
@@ -150,15 +175,11 @@ writes-nothing s same (Refuse n) a = refl
 module _ (s : List ℕ) where
   step-writes : put (get s) s ≡ s → (t : Step) → bufferAfterOutcome s (rules (get s) t) ≡ bufferAfterOutcome s (rulesBefore (get s) t)
   unfolding rules after
-  step-writes same (Load c b w) =
+  step-writes same =
+      by-kind (get s) (λ _ o o′. bufferAfterOutcome s o ≡ bufferAfterOutcome s o′) (λ _ o. refl)
+      (λ c b w.
       writes-nothing s same (check (get s) (Load c b w)) (answer (get s) (Load c b w))
-      ∙ sym (writes-nothing s same (checkBefore (get s) (Load c b w)) (answer (get s) (Load c b w)))
-  step-writes same (Store c b w v) = refl
-  step-writes same (Send c b t p o d) = refl
-  step-writes same (Deliver i) = refl
-  step-writes same (Raise c b) = refl
-  step-writes same (Lower c b) = refl
-  step-writes same (Forward c b) = refl
+      ∙ sym (writes-nothing s same (checkBefore (get s) (Load c b w)) (answer (get s) (Load c b w))))
 
   by-reading : (k : Reading) → (soundBytes s ≡ true → put (get s) s ≡ s)
       → bufferAfterOutcome s (outcomeBy rules k s) ≡ bufferAfterOutcome s (outcomeBy rulesBefore k s)

@@ -53,8 +53,8 @@ pub record Kept (r : Rack) (t : Step) (a : Answer) (r′ : Rack) : Type 0 where
   pub boards : r′ .boards ≡ r .boards
   pub tokens : r′ .tokens ≡ r .tokens
   pub count : length (r′ .blocks) ≡ length (r .blocks)
-  pub coherent : (mem : Memory) → Coherent r mem → Coherent r′ (accessedAll mem (accessOf t))
   pub word : (mem : Memory) → Coherent r mem → wordsOf a ≡ flat mem (accessOf t)
+  pub coherent : (mem : Memory) → Coherent r mem → Coherent r′ (accessedAll mem (accessOf t))
   pub fits : StepFits t → Fits r → Fits r′
 
 -- a property of an accepted outcome
@@ -117,8 +117,8 @@ module _ (r : Rack) (s : Sound r) where
         boards = refl;
         tokens = refl;
         count = simp length-set;
-        coherent = λ mem coh. rw e (m .coherent mem coh);
         word = λ mem coh. rw e w;
+        coherent = λ mem coh. rw e (m .coherent mem coh);
         fits = λ small. m .fits;
       }
 
@@ -138,8 +138,8 @@ module _ (r : Rack) (s : Sound r) where
         boards = refl;
         tokens = refl;
         count = refl;
-        coherent = λ mem coh. coh;
         word = λ mem coh. ap (λ (ws : List ℕ). getD ws w 0 ∷ []) (cell-has r s b c (inB c b on) (inN c b on) mem coh (not-false _ valid));
+        coherent = λ mem coh. coh;
         fits = λ small h. h;
       }
   passed (Store c b w v) =
@@ -154,8 +154,8 @@ module _ (r : Rack) (s : Sound r) where
         boards = refl;
         tokens = refl;
         count = simp length-set;
-        coherent = stored-coherent r s c b (inN c b on) (inB c b on) enough w v;
         word = λ mem coh. refl;
+        coherent = stored-coherent r s c b (inN c b on) (inB c b on) enough w v;
         fits = stored-fits r s c b (inN c b on) (inB c b on) enough w v;
       }
   passed (Send c b t p o d) =

@@ -2,9 +2,9 @@
 -- line 4 for a load; here is what that means for home, and that all else is as it was.
 use Prim.Native.Nat.{ℕ, _<_}
 use mathlib.Core.Path.{_≡_}
-use mathlib.Core.Bool.{Bool, true, false, not, _||_}
+use mathlib.Core.Bool.{Bool, true, false, not, cond, _||_}
 use mathlib.Core.List.{List}
-use lib.ListN.{length}
+use lib.ListN.{length, getD}
 use lib.Dec.{eqb}
 use Rattle.spec_base.specs.Number.{Bytes}
 use Rattle.spec_wire.specs.declared.Refusal.the-variants.{OffRack, Home, NoToken, NoData}
@@ -17,10 +17,12 @@ use Rattle.spec_wire.specs.declared.Reading.{Reading}
 use Rattle.spec_wire.specs.declared.Reading.the-variants.{Step as Read, Refused as NoStep}
 use Rattle.spec_wire.specs.Reader.{readRecord}
 use Rattle.spec_rack.specs.declared.Answer.{Answer}
+use Rattle.spec_rack.specs.declared.Answer.the-variants.{Word}
 use Rattle.spec_rack.specs.declared.Reply.{Reply}
 use Rattle.spec_rack.specs.declared.Reply.the-variants.{Accepted, Refused}
 use Rattle.spec_rack.specs.declared.Lettered.the-variants as Lettered
 use Rattle.spec_rack.specs.Rack.{Rack, cellAt, held}
+use Rattle.spec_rack.specs.Soundness.{sound}
 use Rattle.spec_rack.specs.Rules.{Outcome, settled, check, after, answer, offRack, pastWords, reply, rackAfter}
 use Rattle.spec_rack.specs.Letter.{letter}
 use Rattle.spec_rack.specs.Entries.{bufferAfterOutcome, outcomeBy, stepReply, stepAfter}
@@ -67,6 +69,13 @@ OrdinaryLoad =
     (r r′ : Rack) (b b′ c w : ℕ) → (c ≡ 0 → ⊥) → offRack r 0 b ≡ offRack r′ c b′ → cellAt r b 0 ≡ cellAt r′ b′ c
     → ruledReply r (Load 0 b w) ≡ ruledReplyBefore r′ (Load c b′ w)
 
+-- On a sound rack a load on the rack is answered exactly where the component is valid, and else refused with 5 or 6: at home as at every board.
+abbrev pub ValidLoads : Type 0
+ValidLoads =
+    (r : Rack) (c b w : ℕ) → sound r ≡ true → offRack r c b ≡ false → w < 8
+    → ruledReply r (Load c b w)
+    ≡ cond (cellAt r b c .valid) (Accepted (Word (getD (cellAt r b c .words) w 0))) (Refused (cond (eqb (held (cellAt r b c)) 0) NoToken NoData))
+
 -- ---- every load that was answered before gives the same, and all else is as it was
 
 abbrev pub isHomeLoad : Step → Bool
@@ -82,14 +91,15 @@ abbrev pub isHomeLoadIn : Reading → Bool
 isHomeLoadIn (Read t) = isHomeLoad t
 isHomeLoadIn (NoStep n) = false
 
--- a list of items given to a state, by what one item leaves and what is replied to it, now and before
+-- A list of items given to a state, by what one item leaves and what is replied to it, now and before; and an item x behind the list. As every item of a
+-- list stands behind a shorter one, this is said of each reply to a list.
 module _ {S I : Type 0} (after before : S → I → S) (reply replyBefore : S → I → Reply) (homeLoad : I → Bool) where
   pub record SameList (s : S) (items : List I) : Type 0 where
     -- it leaves the same
     pub state : runAll after s items ≡ runAll before s items
-    -- an item behind it that was accepted before is accepted with the same answer: an answered load gives the same word
+    -- what was accepted before is accepted with the same answer: an answered load gives the same word
     pub answered : (x : I) (a : Answer) → replyBefore (runAll before s items) x ≡ Accepted a → reply (runAll after s items) x ≡ Accepted a
-    -- and one that is no load at home has the same reply, refused or not
+    -- and what is no load at home has the same reply, refused or not
     pub others : (x : I) → homeLoad x ≡ false → reply (runAll after s items) x ≡ replyBefore (runAll before s items) x
 
 -- of every list of steps on every rack

@@ -104,15 +104,15 @@ abbrev pub pastMesh : Rack → ℕ → Bool
 pastMesh r i = leb (length (r .mesh)) i
 
 unfoldable pub check : Rack → Step → Check
--- at home too (document 02, No. 7): document 01 refused a load there with 4
+-- at home as at a board (document 02, No. 7): document 01 had 4 there
 check r (Load c b w) =
     when offRack r c b || pastWords w refuse OffRack else
-    when eqb (held (cellAt r b c)) 0 refuse NoToken else
-    when not (cellAt r b c .valid) refuse NoData else
+    when eqb (held (cellAt r b c)) 0 refuse NoToken else  -- nothing held
+    when not (cellAt r b c .valid) refuse NoData else  -- tokens, not valid
     Pass
 check r (Store c b w v) =
     when offRack r c b || pastWords w refuse OffRack else
-    when eqb c 0 refuse Home else
+    when eqb c 0 refuse Home else  -- also where home holds all T
     when ltb (held (cellAt r b c)) (r .tokens) refuse Short else
     Pass
 check r (Send c b t p o d) =
@@ -130,11 +130,11 @@ check r (Deliver i) =
     Pass
 check r (Raise c b) =
     when offRack r c b refuse OffRack else
-    when eqb c 0 refuse Home else
+    when eqb c 0 refuse Home else  -- home never waits
     raiseCheck (claimsAt r b) c
 check r (Lower c b) =
     when offRack r c b refuse OffRack else
-    when eqb c 0 refuse Home else
+    when eqb c 0 refuse Home else  -- 4, and not 17
     lowerCheck (claimsAt r b) c
 check r (Forward c b) =
     when offRack r c b refuse OffRack else

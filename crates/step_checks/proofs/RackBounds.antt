@@ -1,14 +1,14 @@
 -- A component and a block that are not off the rack: what the bytes of the record say of them.
-use Prim.Native.Nat.{ℕ, _+_, _*_, _≤_, _<_}
+use Prim.Native.Nat.{ℕ, _+_, _≤_, _<_}
 use native.Mathlib.Omega.{arith}
 use mathlib.Core.Path.{_≡_, refl, sym, ap, _∙_}
 use mathlib.Core.Logic.{⊎-elim}
 use mathlib.Core.Bool.{Bool, true, false, _||_}
 use mathlib.Core.List.{List}
 use lib.Dec.{eqb, leb, ltb}
-use lib.ListN.{length, getD}
-use borrow.Author.Tests.{eq-eqb, lt-ltb, le-ltb, ltb-false, leb-false}
-use Rattle.spec_base.proofs.Tests.{differs, lt-or-le, or-l, or-r, or-left}
+use lib.ListN.{length}
+use borrow.Author.Tests.{eq-eqb, lt-ltb, le-ltb, ltb-false, leb-false, leb-true}
+use Rattle.spec_base.proofs.Tests.{differs, lt-or-le, and-l, and-r, or-l, or-r, or-left}
 use Rattle.spec_base.specs.Number.{Bytes}
 use Rattle.spec_base.specs.Layout.{slice}
 use Rattle.spec_wire.specs.declared.Check.{Check}
@@ -16,8 +16,9 @@ use Rattle.spec_rack.specs.Claims.{Claims}
 use Rattle.spec_rack.specs.RecordLayout.{claims, blockOffset, claimsOffset, get, blocksIn, boardsIn, claimsSize, messagesIn}
 use Rattle.spec_rack.specs.Rack.{meshLimit, claimsAt}
 use Rattle.spec_rack.specs.Rules.{offRack, meshFull}
-use Rattle.record.specs.Needs.{InLayout, CellInRecord}
+use Rattle.record.specs.Needs.{InLayout, CellInRecord, SoundRecord}
 use Rattle.spec_rack.proofs.GetPut.{boards-is, blocks-is, mesh-is}
+use Rattle.spec_rack.proofs.SoundRecord.{rack-sound}
 use Rattle.step_checks.proofs.ClaimsInRecord.{claims-room, claims-read}
 
 -- ---- the tests that the code makes on the bytes
@@ -79,3 +80,7 @@ board-one c is on = ⊎-elim (λ (l : 0 < c). l) (λ (l : c ≤ 0). differs (sym
 pub on-word : (s : List ℕ) → InLayout s → (c b w : ℕ) {off : Bool} → off ≡ (offRack (get s) c b || ltb 7 w) → off ≡ false → CellInRecord s b c × (w < 8)
 on-word s whole c b w is on =
     (in-cell s c b refl (on-of s c b w is on) whole, omega (arith, ltb-false 7 w (or-r (offRack (get s) c b) (ltb 7 w) (sym is ∙ on))))
+
+-- every sound rack has a board
+pub some-board : (s : List ℕ) → SoundRecord s → 1 ≤ boardsIn s
+some-board s ready = omega (arith, boards-is s, leb-true 1 (get s .boards) (search (and-l, and-r, rack-sound s (ready .sound) .size) depth 7))

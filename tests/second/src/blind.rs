@@ -1,5 +1,6 @@
-//! Document 01 a third time, with No. 1 of document 02, from these papers alone: neither the engine, nor the other programs, nor the readings in docs/
-//! were at hand. It keeps typed values and knows nothing of the record's bytes, so buffers (20) and damaged records (2) are not its matter.
+//! Document 01 a third time, with Nos. 1 and 7 of document 02, from these papers alone: neither the engine, nor the other programs,
+//! nor the readings in docs/ were at hand. It keeps typed values and knows nothing of the record's bytes, so buffers (20) and damaged
+//! records (2) are not its matter.
 
 use std::collections::BTreeSet;
 
@@ -158,7 +159,8 @@ impl Rack {
         // The order of "First match": 3 and 4 come before what is special to a step. A field the kind lacks is 0 and passes 3.
         refuse(word > 7 || target > self.boards, 3)?;
         let (c, b) = self.place(component, block)?;
-        refuse(c == 0 && matches!(kind, 0x10 | 0x11 | 0x14 | 0x15), 4)?;
+        // No. 7: 4 no longer names a load, so a load at home meets the ordinary load rule, 5 and 6 included.
+        refuse(c == 0 && matches!(kind, 0x11 | 0x14 | 0x15), 4)?;
         let (cell, claims) = (&mut self.cells[b][c], &mut self.claims[b]);
         let full = self.mesh.len() >= 64;
         // In each arm all checks stand before the first change, so a refusal changes nothing.
