@@ -507,9 +507,8 @@ unsafe fn one<const WHOLE: bool>(rec: *mut u8, p: *const u8, left: usize) -> (u6
     match value(0) {
         0x10 if room(LOAD_SIZE) && LOAD.fits::<LOAD_SIZE>(p) => {
             let (c, b, w) = (value(6), value(10), value(14));
-            let n = *rec.add(BOARDS);
-            if c.wrapping_sub(1) >= n || b >= *rec.add(BLOCKS) || w > 7 {
-                return (off_or_home(c, n, b >= *rec.add(BLOCKS) || w > 7), LOAD_SIZE);
+            if c > *rec.add(BOARDS) || b >= *rec.add(BLOCKS) || w > 7 {
+                return (OFF_RACK, LOAD_SIZE);
             }
             let block = block_at(rec, b);
             let cell = block.add(c.into());

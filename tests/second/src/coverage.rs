@@ -1,7 +1,7 @@
 //! What a comparison reached: for each call and kind of step, how often it was accepted and met each refusal; which messages were delivered from
-//! a filled mesh, and whom they served.
+//! a filled mesh, and whom they served; which steps at home the lists had.
 
-use crate::model::{Message, Rack, HOME, MESH_LIMIT};
+use crate::model::{Answer, Message, Rack, Refusal, Reply, Step, HOME, MESH_LIMIT, WORDS};
 
 pub const KINDS: [&str; 12] =
     ["load", "store", "send", "deliver", "raise", "lower", "forward", "other bytes", "opening", "letter", "reading", "writing"];
@@ -13,7 +13,7 @@ pub const WRITING: usize = 11;
 
 /// The refusals that each kind can meet. Reading meets 20 and writing 1 at the C interface alone.
 const REFUSALS: [&[usize]; 12] = [
-    &[1, 2, 3, 4, 5, 6],
+    &[1, 2, 3, 5, 6],
     &[1, 2, 3, 4, 7],
     &[1, 2, 3, 8, 9, 10, 11, 12, 6, 13],
     &[1, 2, 14],
@@ -72,6 +72,59 @@ fn served(mesh: &[Message], at: usize) -> [bool; SERVED.len()] {
     ]
 }
 
+/// Steps at component 0 in lists, where an engine would be seen that refuses every load there, reads another component's words, leaves out a line of
+/// the table, or takes a step that is still refused. The first two are the answered loads.
+const AT_HOME: [&str; 14] = [
+    "load of a word that is not 0",
+    "load of 0",
+    "load of another word than board 1 has",
+    "load of another word than the last board has",
+    "load with all T held",
+    "load without the owner",
+    "load of a block off the rack",
+    "load of a word off the rack",
+    "load with nothing held",
+    "load with tokens and no data",
+    "store with all T held",
+    "store with valid data and fewer held",
+    "raise",
+    "lower",
+];
+const ANSWERED: usize = 2;
+
+/// Which of these a step is, by its reply. None of them changes the rack: it is the one before and after.
+fn at_home(rack: &Rack, step: Step, reply: Reply) -> [bool; AT_HOME.len()] {
+    let (block, word) = match step {
+        Step::Load { component: HOME, block, word } | Step::Store { component: HOME, block, word, .. } => (block, word),
+        Step::Raise { component: HOME, block } | Step::Lower { component: HOME, block } => (block, 0),
+        _ => return [false; AT_HOME.len()],
+    };
+    let (load, store) = (matches!(step, Step::Load { .. }), matches!(step, Step::Store { .. }));
+    let (raise, lower) = (matches!(step, Step::Raise { .. }), matches!(step, Step::Lower { .. }));
+    let refused = |refusal| reply == Err(refusal);
+    let given = if let Ok(Answer::Word(given)) = reply { Some(given) } else { None };
+    let cells = rack.blocks.get(usize::from(block)).map(|block| &block.cells);
+    let home = cells.map(|cells| cells[usize::from(HOME)].clone()).unwrap_or_default();
+    let all = home.held() == rack.tokens;
+    let differs = |board: u8| cells.zip(given).is_some_and(|(cells, given)| cells[usize::from(board)].words[usize::from(word)] != given);
+    [
+        given.is_some_and(|given| given != 0),
+        given == Some(0),
+        differs(1),
+        differs(rack.boards),
+        given.is_some() && all,
+        given.is_some() && !home.owner,
+        load && refused(Refusal::OffRack) && cells.is_none() && usize::from(word) < WORDS,
+        load && refused(Refusal::OffRack) && cells.is_some(),
+        load && refused(Refusal::NoToken),
+        load && refused(Refusal::NoData),
+        store && refused(Refusal::Home) && all,
+        store && refused(Refusal::Home) && home.valid && !all,
+        raise && refused(Refusal::Home),
+        lower && refused(Refusal::Home),
+    ]
+}
+
 /// Deliveries from a filled mesh.
 #[derive(Default)]
 struct Delivered {
@@ -92,12 +145,32 @@ pub struct Coverage {
     pub lists: u64,
     pub most_in_flight: usize,
     pub flat_loads: u64,
+    /// Those of them that are at home.
+    pub flat_home_loads: u64,
     pub damaged: u64,
     pub damaged_sound: u64,
     pub runs: u64,
     pub run_steps: u64,
     pub letters: u64,
     delivered: Delivered,
+    at_home: [u64; AT_HOME.len()],
+}
+
+/// Adds each to the count at its place.
+fn add_each<'a>(counts: impl IntoIterator<Item = &'a mut u64>, more: impl IntoIterator<Item = impl Into<u64>>) {
+    for (count, more) in counts.into_iter().zip(more) {
+        *count += more.into();
+    }
+}
+
+/// Counts with their names.
+fn named(names: &[&str], counts: &[u64]) -> String {
+    names.iter().zip(counts).map(|(name, n)| format!("{name} {n}")).collect::<Vec<String>>().join(", ")
+}
+
+/// The names whose count is 0.
+fn missing<'a>(names: &'a [&str], counts: &'a [u64]) -> impl Iterator<Item = &'a str> {
+    names.iter().zip(counts).filter(|(_, &count)| count == 0).map(|(name, _)| *name)
 }
 
 /// The kind of a step's bytes, by their first byte.
@@ -129,35 +202,34 @@ impl Coverage {
         let delivered = &mut self.delivered;
         delivered.counts[class][brought] += 1;
         delivered.in_flight += count as u64;
-        for (count, is) in delivered.served.iter_mut().zip(served(&rack.mesh, at)) {
-            *count += u64::from(is);
-        }
+        add_each(&mut delivered.served, served(&rack.mesh, at));
         if class == MIDDLE && brought == 2 {
             delivered.apart += u64::from([at - 1, at + 1].iter().all(|&beside| rack.mesh[beside].words != message.words));
             delivered.most = delivered.most.max(count);
         }
     }
 
+    /// Counts a step of a list and its reply, with the rack after it.
+    pub fn at_home(&mut self, rack: &Rack, step: Step, reply: Reply) {
+        add_each(&mut self.at_home, at_home(rack, step, reply));
+    }
+
     /// Adds what another part of the comparison reached.
     pub fn add(&mut self, other: &Coverage) {
-        for (mine, theirs) in self.counts.iter_mut().flatten().zip(other.counts.iter().flatten()) {
-            *mine += theirs;
-        }
+        add_each(self.counts.iter_mut().flatten(), other.counts.into_iter().flatten());
+        add_each(&mut self.at_home, other.at_home);
         self.steps += other.steps;
         self.lists += other.lists;
         self.most_in_flight = self.most_in_flight.max(other.most_in_flight);
         self.flat_loads += other.flat_loads;
+        self.flat_home_loads += other.flat_home_loads;
         self.damaged += other.damaged;
         self.damaged_sound += other.damaged_sound;
         self.runs += other.runs;
         self.run_steps += other.run_steps;
         self.letters += other.letters;
-        for (mine, theirs) in self.delivered.counts.iter_mut().flatten().zip(other.delivered.counts.iter().flatten()) {
-            *mine += theirs;
-        }
-        for (mine, theirs) in self.delivered.served.iter_mut().zip(other.delivered.served) {
-            *mine += theirs;
-        }
+        add_each(self.delivered.counts.iter_mut().flatten(), other.delivered.counts.into_iter().flatten());
+        add_each(&mut self.delivered.served, other.delivered.served);
         self.delivered.in_flight += other.delivered.in_flight;
         self.delivered.apart += other.delivered.apart;
         self.delivered.most = self.delivered.most.max(other.delivered.most);
@@ -165,10 +237,14 @@ impl Coverage {
 
     pub fn print(&self) {
         println!("{} steps in {} lists; most messages in flight {}", self.steps, self.lists, self.most_in_flight);
-        println!("{} loads answered as the flat memory does; {} state letters", self.flat_loads, self.letters);
+        println!(
+            "{} loads answered as the flat memory does, {} of them at home; {} state letters",
+            self.flat_loads, self.flat_home_loads, self.letters
+        );
         println!("{} damaged records, {} of them sound", self.damaged, self.damaged_sound);
         println!("{} runs of {} steps", self.runs, self.run_steps);
         self.delivered.print();
+        println!("steps at home: {}", named(&AT_HOME, &self.at_home));
         for (kind, counts) in KINDS.iter().zip(&self.counts) {
             let refused: Vec<String> =
                 counts.iter().enumerate().skip(1).filter(|(_, &n)| n > 0).map(|(number, n)| format!("r{number} {n}")).collect();
@@ -176,9 +252,14 @@ impl Coverage {
         }
     }
 
-    /// What a kind can meet and never met, and what it met and cannot; what was never delivered.
+    /// What a kind can meet and never met, and what it met and cannot; what was never delivered; what was never tried at home.
     pub fn gaps(&self) -> Vec<String> {
         let mut gaps = self.delivered.gaps();
+        gaps.extend(missing(&AT_HOME, &self.at_home).map(|step| format!("no {step} at home")));
+        let answered: u64 = self.at_home[..ANSWERED].iter().sum();
+        if self.flat_home_loads != answered {
+            gaps.push(format!("the flat memory was handed {} of {answered} loads that were answered at home", self.flat_home_loads));
+        }
         for ((kind, counts), refusals) in KINDS.iter().zip(&self.counts).zip(REFUSALS) {
             if counts[0] == 0 && *kind != KINDS[OTHER] {
                 gaps.push(format!("{kind} was never accepted"));
@@ -204,12 +285,10 @@ impl Delivered {
     fn print(&self) {
         println!("{} deliveries from a filled mesh, {} in flight on average", self.count(), self.in_flight / self.count().max(1));
         for (class, counts) in POSITIONS.iter().zip(&self.counts) {
-            let brought: Vec<String> = BROUGHT.iter().zip(counts).map(|(what, n)| format!("{what} {n}")).collect();
-            println!("{class:>12}: {}", brought.join(", "));
+            println!("{class:>12}: {}", named(&BROUGHT, counts));
         }
         println!("{:>12}  {} of the middle with words that neither neighbour has", "", self.apart);
-        let served: Vec<String> = SERVED.iter().zip(self.served).map(|(whom, n)| format!("{whom} {n}")).collect();
-        println!("{:>12}: {}", "served", served.join(", "));
+        println!("{:>12}: {}", "served", named(&SERVED, &self.served));
     }
 
     /// A position and what was brought from it that never came together; too few from the middle, or never from the middle of a full mesh; whom
@@ -217,8 +296,7 @@ impl Delivered {
     fn gaps(&self) -> Vec<String> {
         let mut gaps = Vec::new();
         for (class, counts) in POSITIONS.iter().zip(&self.counts) {
-            let missing = BROUGHT.iter().zip(counts).filter(|(_, &count)| count == 0);
-            gaps.extend(missing.map(|(brought, _)| format!("no delivery of {brought}, {class}")));
+            gaps.extend(missing(&BROUGHT, counts).map(|brought| format!("no delivery of {brought}, {class}")));
         }
         if 2 * self.counts[MIDDLE].iter().sum::<u64>() <= self.count() {
             gaps.push("most deliveries are not from the middle".into());
@@ -229,8 +307,7 @@ impl Delivered {
         if self.most != MESH_LIMIT {
             gaps.push(format!("no delivery of the middle with {MESH_LIMIT} in flight"));
         }
-        let missing = SERVED.iter().zip(self.served).filter(|&(_, count)| count == 0);
-        gaps.extend(missing.map(|(whom, _)| format!("no delivery served {whom}")));
+        gaps.extend(missing(&SERVED, &self.served).map(|whom| format!("no delivery served {whom}")));
         gaps
     }
 }

@@ -95,10 +95,10 @@ impl Deliveries {
         Some(Step::Store { component: board, block, word: stores - 1, value: self.rng.draw() as u32 })
     }
 
-    /// A load of a board with valid words.
+    /// A load at a component with valid words, home among them.
     fn load(&mut self, rack: &Rack) -> Option<Step> {
         let (component, block) = self.valid(rack)?;
-        (component != HOME).then(|| Step::Load { component, block, word: self.rng.below(WORDS) as u8 })
+        Some(Step::Load { component, block, word: self.rng.below(WORDS) as u8 })
     }
 
     /// A few tokens of a component with valid words, mostly with these, to another component: mostly one that has other words.

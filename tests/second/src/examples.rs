@@ -1,5 +1,6 @@
 //! Document 01's examples: the lines W1 to W11 and the input of rackrun, with the results that it states, a deliver's by document 02's No. 1. Beside
-//! them a forward into a full mesh, and delivers that serve home, serve from the middle, and serve components and blocks of two digits.
+//! them a forward into a full mesh; delivers that serve home, serve from the middle, and serve components and blocks of two digits; and loads at home
+//! by No. 7, with what home still refuses, on a small rack and on a large one.
 
 use crate::calls::unhex;
 use crate::model::{self, Step};
@@ -13,6 +14,8 @@ pub enum Line {
 }
 
 /// Examples that rackrun is tried on too.
+pub const HOME_LOADS: &str = "home_loads";
+pub const HOME_LOADS_FAR: &str = "home_loads_far";
 pub const LISTING: &str = "listing";
 pub const SERVED_FAR: &str = "served_far";
 pub const SERVED_HOME: &str = "served_home";
@@ -26,8 +29,10 @@ pub struct Example {
 }
 
 /// Whom a deliver served, in rackrun's words and as one number: both by hand, so that no program's packing is taken for granted.
-pub const SERVED: [(&str, u64); 7] = [
+pub const SERVED: [(&str, u64); 9] = [
     ("d0.0", 0x0400_0000_0000_0000),
+    ("d0.10", 0x0400_000a_0000_0000),
+    ("d0.31", 0x0400_001f_0000_0000),
     ("d1.0", 0x0401_0000_0000_0000),
     ("d2.0", 0x0402_0000_0000_0000),
     ("d2.1", 0x0402_0001_0000_0000),
@@ -65,11 +70,19 @@ fn lower(component: u8, says: &'static str) -> Line {
 }
 
 fn load(component: u8, says: &'static str) -> Line {
-    line(Step::Load { component, block: 0, word: 0 }, says)
+    load_at(component, 0, 0, says)
+}
+
+fn load_at(component: u8, block: u8, word: u8, says: &'static str) -> Line {
+    line(Step::Load { component, block, word }, says)
 }
 
 fn store(component: u8, says: &'static str) -> Line {
-    line(Step::Store { component, block: 0, word: 0, value: 1 }, says)
+    store_at(component, 0, 0, 1, says)
+}
+
+fn store_at(component: u8, block: u8, word: u8, value: u32, says: &'static str) -> Line {
+    line(Step::Store { component, block, word, value }, says)
 }
 
 pub fn all() -> Vec<Example> {
@@ -140,6 +153,61 @@ pub fn all() -> Vec<Example> {
                 deliver_at(1, "d2.1"),
                 deliver("d1.0"),
                 deliver("d3.0"),
+            ],
+        },
+        rack(
+            HOME_LOADS,
+            vec![
+                bytes("10 00 0C 01 00 01 00 02 00 01 00 03 00 01 00", "v00000000"),
+                send(0, 0, 1, 2, true, true, "ok"),
+                load(0, "r5"),
+                deliver("d1.0"),
+                store_at(1, 0, 0, 5, "ok"),
+                send(1, 0, 0, 1, false, false, "ok"),
+                deliver("d0.0"),
+                load(0, "r6"),
+                send(1, 0, 0, 1, true, true, "ok"),
+                deliver("d0.0"),
+                load(0, "v00000005"),
+                store(0, "r4"),
+                raise(0, "r4"),
+                lower(0, "r4"),
+                load(3, "r3"),
+                load_at(0, 1, 0, "r3"),
+                load_at(0, 0, 8, "r3"),
+                Line::Letter(0, 0, "r4"),
+            ],
+        ),
+        // Home gets back a token of block 31 with words and one of block 10 without.
+        Example {
+            name: HOME_LOADS_FAR,
+            sizes: (15, 32, 15),
+            opening: "ok",
+            lines: vec![
+                bytes("10 00 0C 01 00 01 00 02 00 01 1F 03 00 01 07", "v00000000"),
+                send(0, 31, 15, 14, true, true, "ok"),
+                send(0, 10, 3, 14, true, true, "ok"),
+                deliver_at(1, "d3.10"),
+                deliver("d15.31"),
+                store_at(15, 31, 7, 0xfedc_ba98, "ok"),
+                store_at(15, 31, 0, 0x8000_0001, "ok"),
+                store_at(3, 10, 7, 0x0000_000a, "ok"),
+                load_at(0, 31, 7, "r5"),
+                send(15, 31, 0, 1, false, true, "ok"),
+                send(3, 10, 0, 1, false, false, "ok"),
+                deliver("d0.31"),
+                deliver("d0.10"),
+                load_at(0, 31, 7, "vfedcba98"),
+                load_at(0, 31, 6, "v00000000"),
+                load_at(0, 31, 0, "v80000001"),
+                load_at(0, 10, 7, "r6"),
+                load_at(0, 30, 7, "v00000000"),
+                store_at(0, 31, 7, 1, "r4"),
+                store_at(0, 30, 7, 1, "r4"),
+                load_at(0, 31, 8, "r3"),
+                load_at(0, 32, 7, "r3"),
+                load_at(16, 31, 7, "r3"),
+                load_at(15, 31, 7, "vfedcba98"),
             ],
         },
     ]

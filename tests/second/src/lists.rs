@@ -78,12 +78,12 @@ impl Lists {
         match kind {
             0 => {
                 let block = self.block(rack, mood);
-                Step::Load { component: self.board_for_words(rack, block, mood), block, word: self.word() }
+                Step::Load { component: self.reader(rack, block, mood), block, word: self.word() }
             }
             1 => {
                 let block = self.block(rack, mood);
                 let value = self.rng.draw() as u32;
-                Step::Store { component: self.board_for_words(rack, block, mood), block, word: self.word(), value }
+                Step::Store { component: self.writer(rack, block, mood), block, word: self.word(), value }
             }
             3 if !rack.mesh.is_empty() || self.rng.percent(15) => Step::Deliver { position: self.position(rack, mood) },
             2 | 3 => self.send(rack, mood),
@@ -201,11 +201,17 @@ impl Lists {
         }
     }
 
-    fn board_for_words(&mut self, rack: &Rack, block: u8, mood: Mood) -> u8 {
+    /// Who loads: mostly a holder, home as often as another.
+    fn reader(&mut self, rack: &Rack, block: u8, mood: Mood) -> u8 {
         if mood == Mood::Gather && self.rng.percent(70) {
             return self.board;
         }
-        match self.holder(rack, block) {
+        self.holder(rack, block)
+    }
+
+    /// Who stores: chosen alike, but seldom home, where a store is always refused.
+    fn writer(&mut self, rack: &Rack, block: u8, mood: Mood) -> u8 {
+        match self.reader(rack, block, mood) {
             HOME if self.rng.percent(90) => 1 + self.rng.below(rack.boards.into()) as u8,
             component => component,
         }

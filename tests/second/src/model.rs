@@ -1,5 +1,5 @@
-//! Document 01 a second time, as typed values, with document 02's No. 1: what a rack is, when it is sound, what each step does and which refusal it
-//! meets.
+//! Document 01 a second time, as typed values, with document 02's Nos. 1 and 7: what a rack is, when it is sound, what each step does and which
+//! refusal it meets.
 //!
 //! It is written for reading beside the paper, section by section, and knows nothing of the record's bytes (`record` does).
 
@@ -392,11 +392,12 @@ impl Refusal {
     }
 }
 
-/// First match, from 3 on: 1 and 2 are asked of the bytes before there is a step and a sound rack. A step meets only the refusals that name it.
+/// First match, from 3 on: 1 and 2 are asked of the bytes before there is a step and a sound rack. A step meets only the refusals that name it; by
+/// document 02's No. 7, 4 does not name a load.
 fn order(step: Step) -> &'static [Refusal] {
     use Refusal::*;
     match step {
-        Step::Load { .. } => &[OffRack, Home, NoToken, NoData],
+        Step::Load { .. } => &[OffRack, NoToken, NoData],
         Step::Store { .. } => &[OffRack, Home, Short],
         Step::Send { .. } => &[OffRack, Itself, Claimed, Empty, NotHeld, BareOwner, NoData, MeshFull],
         Step::Raise { .. } => &[OffRack, Home, Waiting, Barred],
@@ -412,13 +413,7 @@ impl Rack {
         use Refusal::*;
         match (refusal, step) {
             (OffRack, step) => self.off_rack(step),
-            (
-                Home,
-                Step::Load { component, .. }
-                | Step::Store { component, .. }
-                | Step::Raise { component, .. }
-                | Step::Lower { component, .. },
-            ) => component == HOME,
+            (Home, Step::Store { component, .. } | Step::Raise { component, .. } | Step::Lower { component, .. }) => component == HOME,
             (NoToken, Step::Load { component, block, .. } | Step::Forward { component, block }) => self.cell(component, block).held() == 0,
             (NoData, Step::Load { component, block, .. }) => {
                 let cell = self.cell(component, block);

@@ -309,9 +309,6 @@ fn apply(rec: &mut [u8], step: Step) -> u64 {
             if c > n || b >= blocks || w > 7 {
                 return OFF_RACK;
             }
-            if c == 0 {
-                return HOME;
-            }
             let at = cell_at(c, b);
             if rec[at] | rec[at + 1] == 0 {
                 return NO_TOKEN;

@@ -3,7 +3,7 @@
 use super::{filled, Harness, Sizes, SPARE};
 use second::calls::{sound_rack, Call};
 use second::layout::{block_offset, BLOCKS, BOARDS, COUNT, HEADER_SIZE, MESSAGE_SIZE, TOKENS, WORDS};
-use second::model::Rack;
+use second::model::{self, Rack, Step, HOME};
 use second::record;
 
 impl Harness {
@@ -11,6 +11,8 @@ impl Harness {
     fn probes(&mut self, rack: &Rack) -> Vec<Vec<u8>> {
         let mut steps = self.one_of_each(rack);
         steps.extend(self.one_of_each(rack));
+        // what home has is damaged too, and this reads it
+        steps.push(model::write(Step::Load { component: HOME, block: 0, word: 0 }));
         // one torn step: 1 comes before 2
         steps.push(vec![0x13, 0, 4, 9, 0, 1]);
         steps

@@ -4,7 +4,7 @@ use super::{filled, Harness, Sizes, RACKS, SPARE};
 use second::calls::{byte_difference, hex, Layout, ENGINES, LAYOUTS, RECORD};
 use second::coverage::{kind_of, Coverage, LETTER};
 use second::lists::Lists;
-use second::model::{self, Answer, Cell, FlatMemory, Rack, Step};
+use second::model::{self, Answer, Cell, FlatMemory, Rack, Step, HOME};
 use second::{blind, record, reply};
 use std::collections::BTreeSet;
 
@@ -115,8 +115,9 @@ impl List {
             let given = (engine.step)(&mut self.buffers[i], bytes);
             self.same(i, want, given)?;
         }
-        if let (Ok(step), Ok(answer)) = (read, reply) {
-            self.demand(step, answer, &before, coverage)?;
+        if let Ok(step) = read {
+            coverage.at_home(&self.rack, step, reply);
+            reply.map_or(Ok(()), |answer| self.demand(step, answer, &before, coverage))?;
         }
         self.replies.push(want);
         coverage.most_in_flight = coverage.most_in_flight.max(self.rack.mesh.len());
@@ -198,8 +199,9 @@ impl List {
         }
         match (step, answer) {
             (Step::Store { block, word, value, .. }, _) => self.flat.store(block, word, value),
-            (Step::Load { block, word, .. }, Answer::Word(given)) => {
+            (Step::Load { component, block, word }, Answer::Word(given)) => {
                 coverage.flat_loads += 1;
+                coverage.flat_home_loads += u64::from(component == HOME);
                 let flat = self.flat.load(block, word);
                 if given != flat {
                     return Err(self.case(&format!("load gives {given:08x}, the flat memory {flat:08x}")));
