@@ -2,7 +2,7 @@
 
 use crate::rows::Row;
 use second::calls::{Layout, LAYOUTS};
-use second::model::{self, Rack, Step};
+use second::model::{self, Rack, Refusal, Step, HOME};
 use second::{best, engine, reply, tuned};
 
 pub struct Engine {
@@ -12,6 +12,8 @@ pub struct Engine {
     pub run: fn(&mut [u8], &[u8], &mut usize, &mut [u64]) -> usize,
     /// Whether an accepted deliver says whom it served. In an archive from before it gives done.
     pub serves: bool,
+    /// Whether a load at home is as one at a board. In an archive from before it gives 4.
+    pub reads_home: bool,
 }
 
 impl Engine {
@@ -22,13 +24,23 @@ impl Engine {
         run: fn(&mut [u8], &[u8], &mut usize, &mut [u64]) -> usize,
     ) -> Engine {
         let layout = layout_of(length);
-        Engine { name, layout, step, run, serves: serves(layout, step) }
+        let given = |rack: &Rack, asked: Step| step(&mut encoded(rack, layout), &model::write(asked));
+        let mut rack = Rack::open(1, 1, 1).expect("sizes in range");
+        let reads_home = given(&rack, Step::Load { component: HOME, block: 0, word: 0 }) != reply::refused(Refusal::Home);
+        rack.step(Step::Send { component: HOME, block: 0, target: 1, plain: 0, owner: true, data: true }).expect("home has the owner");
+        let serves = given(&rack, Step::Deliver { position: 0 }) != reply::done(0);
+        Engine { name, layout, step, run, serves, reads_home }
     }
 
-    /// Whether its replies are these. Where it does not say whom a deliver served, done must stand in that place.
+    /// Whether its replies are these, or what an archive from before gives in their place: done where a deliver says whom it served, and 4 for a load,
+    /// whose reply does not tell whether it is at home.
     pub fn agrees(&self, replies: &[u64], want: &[u64]) -> bool {
-        let known = |reply: u64| if reply >> 56 == 4 && !self.serves { reply::done(0) } else { reply };
-        replies.iter().copied().eq(want.iter().map(|&reply| known(reply)))
+        let load = |reply: u64| reply >> 56 == 2 || [Refusal::NoToken, Refusal::NoData].map(reply::refused).contains(&reply);
+        let same = |reply: u64, want: u64| match want >> 56 {
+            4 if !self.serves => reply == reply::done(0),
+            _ => reply == want || !self.reads_home && load(want) && reply == reply::refused(Refusal::Home),
+        };
+        replies.len() == want.len() && replies.iter().zip(want).all(|(&reply, &want)| same(reply, want))
     }
 }
 
@@ -46,15 +58,11 @@ pub fn all() -> Vec<Engine> {
         println!("For an accepted deliver {} gives done, where the others say whom it served.", engine.name);
         println!();
     }
+    for engine in all.iter().filter(|engine| !engine.reads_home) {
+        println!("For a load at home {} gives 4, where the others answer it as at a board.", engine.name);
+        println!();
+    }
     all
-}
-
-/// Whether a deliver that is accepted gives something else than done.
-fn serves(layout: &Layout, step: fn(&mut [u8], &[u8]) -> u64) -> bool {
-    let mut rack = Rack::open(1, 1, 1).expect("sizes in range");
-    rack.step(Step::Send { component: 0, block: 0, target: 1, plain: 0, owner: true, data: true }).expect("home has the owner");
-    let mut bytes = encoded(&rack, layout);
-    step(&mut bytes, &model::write(Step::Deliver { position: 0 })) != reply::done(0)
 }
 
 /// The record of a rack in the bytes of a layout.

@@ -108,7 +108,8 @@ pub fn table(out: &str) -> Result<(), String> {
     println!("{}", "|---".repeat(7 + names.len()) + "|");
     for row in rows::all(STEPS) {
         for call in [Call::Step, Call::Run] {
-            let nothing = Engine { name: "nothing", layout: engines[0].layout, step: no_step, run: no_run, serves: false };
+            let nothing =
+                Engine { name: "nothing", layout: engines[0].layout, step: no_step, run: no_run, serves: false, reads_home: false };
             let loops = measure(&mut counter, &row, call, &nothing)?;
             let mut counts = Vec::new();
             for engine in &engines {

@@ -1,4 +1,4 @@
-//! The rows of the benchmark: racks in some state, with seeded lists that keep them in such a state; and deliveries alone.
+//! The rows of the benchmark: racks in some state, with seeded lists that keep them in such a state; deliveries alone; and loads alone.
 
 use second::lists::{Lists, Mood};
 use second::model::{self, Rack, Step, HOME, MESH_LIMIT, WORDS};
@@ -71,6 +71,9 @@ pub fn all(steps: usize) -> Vec<Row> {
     rows.push(deliveries("deliver with data", (15, 32, 64), 32, 1, 1, steps));
     rows.push(deliveries("deliver with data", (15, 32, 64), 32, MESH_LIMIT, 1, steps));
     rows.push(deliveries("deliver all, with data", (15, 32, 64), 32, MESH_LIMIT, MESH_LIMIT, steps));
+    let sizes = (15, 32, 64);
+    rows.push(loads("loads at home", sizes, opened(sizes), steps));
+    rows.push(loads("loads at boards", sizes, carrying(&mut Rng::new(0), sizes, 0), steps));
     rows
 }
 
@@ -85,6 +88,13 @@ impl Row {
             self.copies += block.cells.iter().filter(|cell| cell.valid).count() as f64;
             self.barred += 100.0 * f64::from(block.barring.values().any(|set| !set.is_empty()));
         }
+    }
+
+    /// Makes averages of what was added up: over the steps, and over so many looks at a block.
+    fn average(&mut self, looks: usize) {
+        self.in_flight /= self.steps() as f64;
+        self.copies /= looks as f64;
+        self.barred /= looks as f64;
     }
 
     /// How many steps it has in all.
@@ -125,10 +135,13 @@ impl Row {
     }
 }
 
+fn opened((boards, blocks, tokens): Sizes) -> Rack {
+    Rack::open(boards, blocks, tokens).expect("sizes in range")
+}
+
 fn row(name: &'static str, sizes: Sizes, state: State, records: usize, steps: usize) -> Row {
-    let (boards, blocks, tokens) = sizes;
-    let mut lists = Lists::new(u64::from(boards) * 1000 + state as u64);
-    let mut rack = Rack::open(boards, blocks, tokens).expect("sizes in range");
+    let mut lists = Lists::new(u64::from(sizes.0) * 1000 + state as u64);
+    let mut rack = opened(sizes);
     if state == State::Copies {
         spread(&mut rack);
     }
@@ -163,9 +176,7 @@ fn row(name: &'static str, sizes: Sizes, state: State, records: usize, steps: us
         }
         row.works.push(work);
     }
-    row.in_flight /= row.steps() as f64;
-    row.copies /= looks as f64;
-    row.barred /= looks as f64;
+    row.average(looks);
     row
 }
 
@@ -187,17 +198,33 @@ fn deliveries(name: &'static str, sizes: Sizes, records: usize, in_flight: usize
         }
         row.works.push(work);
     }
-    let looks = records * row.works[0].rack.blocks.len();
     row.accepted = row.steps();
-    row.in_flight /= row.steps() as f64;
-    row.copies /= looks as f64;
-    row.barred /= looks as f64;
+    row.average(records * row.works[0].rack.blocks.len());
+    row
+}
+
+/// Loads alone, each of any word of any block, at a component with valid data of it. A load changes nothing, so one record serves for all.
+fn loads(name: &'static str, sizes: Sizes, rack: Rack, steps: usize) -> Row {
+    let mut rng = Rng::new(0);
+    let mut row = Row::new(name, sizes, steps);
+    row.look(&rack);
+    let blocks = rack.blocks.len();
+    let mut work = Work::new(rack);
+    for _ in 0..steps {
+        let block = rng.below(blocks);
+        let component = work.rack.blocks[block].cells.iter().position(|cell| cell.valid).expect("a component has the block");
+        work.push(Step::Load { component: component as u8, block: block as u8, word: rng.below(WORDS) as u8 });
+    }
+    row.works.push(work);
+    row.accepted = row.steps();
+    row.average(blocks);
     row
 }
 
 /// Each block goes to a board, which stores words of its own. Then so many messages with data go from such boards to others, one token with each.
-fn carrying(rng: &mut Rng, (boards, blocks, tokens): Sizes, in_flight: usize) -> Rack {
-    let mut rack = Rack::open(boards, blocks, tokens).expect("sizes in range");
+fn carrying(rng: &mut Rng, sizes: Sizes, in_flight: usize) -> Rack {
+    let (boards, blocks, tokens) = sizes;
+    let mut rack = opened(sizes);
     let mut step = |step: Step| rack.step(step).expect("the board has the tokens");
     let holders: Vec<u8> = (0..blocks).map(|_| 1 + rng.below(boards as usize) as u8).collect();
     for (block, &component) in (0..).zip(&holders) {
