@@ -1,6 +1,6 @@
 /* Compares the view of include/hyaloneth_view.h with a second account of the rack: plain arrays that change by document 01's rules at each step that
- * the engine accepts, and know no bytes. Every figure is compared after every accepted step, so that a wrong offset is found; so is whom a deliver
- * served. Exits with 1 at the first difference.
+ * the engine accepts, and know no bytes. Every figure is compared after every accepted step, so that a wrong offset is found; so are whom a deliver
+ * served and what a load gives, at home too. Exits with 1 at the first difference.
  *
  * Argument, if any: a file. Some of the records go there, one after the other, and their figures to the standard output, in the form that
  * hosts/rust/examples/figures.rs prints them in. */
@@ -50,6 +50,8 @@ static uint8_t *rec;
 static size_t rec_len;
 static FILE *records;
 static unsigned long accepted, kinds[8], figures, fullest;
+/* Loads at home by their refusal, 0 where they are answered; and how many gave a word that is not 0. */
+static unsigned long home_loads[HYL_NO_DATA + 1], home_words;
 
 static uint32_t active(uint32_t block)
 {
@@ -217,9 +219,22 @@ static void write_record(void)
     }
 }
 
-/* Hands in the step of a kind and its numbers; the rack follows where it is accepted. */
-static void step(uint32_t kind, uint32_t component, uint32_t block, uint32_t word, uint32_t value, uint32_t target, uint32_t plain, uint32_t owner,
-                 uint32_t data, uint32_t position)
+/* The kind of answer that a step gives where it is accepted. */
+static uint32_t answer(uint32_t kind)
+{
+    switch (kind) {
+    case HYL_LOAD:
+        return HYL_WORD_GIVEN;
+    case HYL_DELIVER:
+        return HYL_SERVED;
+    default:
+        return HYL_DONE;
+    }
+}
+
+/* Hands in the step of a kind and its numbers, and gives its result; the rack follows where it is accepted. */
+static uint64_t step(uint32_t kind, uint32_t component, uint32_t block, uint32_t word, uint32_t value, uint32_t target, uint32_t plain, uint32_t owner,
+                     uint32_t data, uint32_t position)
 {
     const uint32_t n[HYL_WIRE_PLACES] = {kind, component, block, word, value, target, plain, owner, data, position};
     uint8_t bytes[HYL_WIRE_LONGEST];
@@ -231,8 +246,8 @@ static void step(uint32_t kind, uint32_t component, uint32_t block, uint32_t wor
     }
     result = hyl_step(rec, rec_len, bytes, HYL_COUNT(written));
     if (HYL_KIND(result) == HYL_REFUSED)
-        return;
-    same("the kind of a result", HYL_KIND(result), kind == HYL_DELIVER ? HYL_SERVED : HYL_DONE);
+        return result;
+    same("the kind of a result", HYL_KIND(result), answer(kind));
     same("the component that a deliver served", HYL_COMPONENT_OF(result), kind == HYL_DELIVER ? rack.mesh[position].target : 0);
     same("the block that a deliver served", HYL_BLOCK_OF(result), kind == HYL_DELIVER ? rack.mesh[position].block : 0);
     apply(n);
@@ -243,6 +258,23 @@ static void step(uint32_t kind, uint32_t component, uint32_t block, uint32_t wor
     compare();
     if (records && accepted % WRITTEN == 0)
         write_record();
+    return result;
+}
+
+/* A load gives the component's word, or 5 with nothing held, or 6 with tokens and not valid. Document 02's No. 7 has no other rule for home. */
+static void load(uint32_t component, uint32_t block, uint32_t word)
+{
+    const struct cell *cell = &rack.cell[block][component];
+    uint32_t refusal = cell->plain + cell->owner == 0 ? HYL_NO_TOKEN : !cell->valid ? HYL_NO_DATA : 0;
+    uint32_t given = refusal ? 0 : cell->words[word];
+    uint64_t result = step(HYL_LOAD, component, block, word, 0, 0, 0, 0, 0, 0);
+
+    same("the refusal of a load", HYL_REFUSAL(result), refusal);
+    same("the word of a load", HYL_WORD_OF(result), given);
+    if (component == 0) {
+        home_loads[refusal]++;
+        home_words += given != 0;
+    }
 }
 
 static void claim(uint32_t kind, uint32_t component, uint32_t block)
@@ -346,6 +378,8 @@ static void try_rack(uint32_t boards, uint32_t blocks, uint32_t tokens)
     compare();
     for (round = 0; round < ROUNDS; round++) {
         any_step();
+        load(0, any(blocks), any(8));
+        load(any(boards + 1), any(blocks), any(8));
         if (round % 500 == 400)
             flood();
     }
@@ -369,12 +403,18 @@ int main(int argc, char **argv)
         return 1;
     }
     /* What is never made, and a mesh that is never full, would leave figures untried. */
-    for (kind = HYL_STORE; kind <= HYL_FORWARD; kind++)
+    for (kind = HYL_LOAD; kind <= HYL_FORWARD; kind++)
         if (kinds[kind - HYL_LOAD] < 100 || fullest < 64) {
             printf("view: only %lu accepted steps of kind %x, and %lu messages in flight\n", kinds[kind - HYL_LOAD], kind, fullest);
             return 1;
         }
+    if (!home_words || !home_loads[HYL_NO_TOKEN] || !home_loads[HYL_NO_DATA]) {
+        printf("view: loads at home gave %lu words that are not 0, 5 %lu times and 6 %lu times\n", home_words, home_loads[HYL_NO_TOKEN],
+               home_loads[HYL_NO_DATA]);
+        return 1;
+    }
     if (!records)
-        printf("%lu figures of the view and of results in C, over %lu accepted steps, are as the rules have them\n", figures, accepted);
+        printf("%lu figures of the view and of results in C, over %lu accepted steps, %lu of them loads at home, are as the rules have them\n",
+               figures, accepted, home_loads[0]);
     return 0;
 }
