@@ -215,5 +215,6 @@ printed =
       bad-sizes = refl;
       example = refl;
       whom = refl;
+      home = refl;
       torn-ones = refl;
     }

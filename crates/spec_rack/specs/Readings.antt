@@ -365,6 +365,10 @@ abbrev pub joined : List (List ℕ) → List ℕ
 joined [] = []
 joined (b ∷ bs) = b ++ joined bs
 
+-- the step record of a load at component 0, block 0, word 0
+abbrev pub homeLoad : List ℕ
+homeLoad = 0x10 ∷ 0x00 ∷ 0x0C ∷ 0x01 ∷ 0x00 ∷ 0x01 ∷ 0x00 ∷ 0x02 ∷ 0x00 ∷ 0x01 ∷ 0x00 ∷ 0x03 ∷ 0x00 ∷ 0x01 ∷ 0x00 ∷ []
+
 pub record Printed : Type 0 where
   -- "0 ok", "4 v0000002a", "5 r5", "21845 r20", each with its newline
   pub ok : line 0 (Accepted Done) ≡ 48 ∷ 32 ∷ 111 ∷ 107 ∷ 10 ∷ []
@@ -400,6 +404,15 @@ pub record Printed : Type 0 where
       ∷ (51 ∷ 32 ∷ 100 ∷ 51 ∷ 46 ∷ 49 ∷ 48 ∷ 10 ∷ [])
       ∷ (52 ∷ 32 ∷ 100 ∷ 49 ∷ 53 ∷ 46 ∷ 51 ∷ 49 ∷ 10 ∷ [])
       ∷ (53 ∷ 32 ∷ 114 ∷ 49 ∷ 52 ∷ 10 ∷ [])
+      ∷ [])
+  -- A load at home, byte for byte, all tokens sent to board 1, and the load again (document 02, No. 7): "0 ok", "1 v00000000", "2 ok", "3 r5"
+  pub home :
+      ruledText (0x02 ∷ 0x01 ∷ 0x03 ∷ joined (homeLoad ∷ stepBytes (Send 0 0 1 2 true true) ∷ homeLoad ∷ []))
+      ≡ joined
+      ((48 ∷ 32 ∷ 111 ∷ 107 ∷ 10 ∷ [])
+      ∷ (49 ∷ 32 ∷ 118 ∷ 48 ∷ 48 ∷ 48 ∷ 48 ∷ 48 ∷ 48 ∷ 48 ∷ 48 ∷ 10 ∷ [])
+      ∷ (50 ∷ 32 ∷ 111 ∷ 107 ∷ 10 ∷ [])
+      ∷ (51 ∷ 32 ∷ 114 ∷ 53 ∷ 10 ∷ [])
       ∷ [])
   -- a torn record costs only itself; two bytes left over are one torn step: "0 ok", "1 r1", "2 r14", "3 r1"
   pub torn-ones :
