@@ -99,9 +99,9 @@ uint64_t hyl_open(uint8_t *rec, size_t rec_len, uint32_t boards, uint32_t blocks
  *   rec, rec_len    the buffer that holds the record
  *   step, step_len  the bytes of the step record, all of them
  * HYL_WORD_GIVEN with the word for a load, HYL_SERVED with the target and the block of its message for a deliver, HYL_DONE for any other step;
- * refused with HYL_TORN, then HYL_UNSOUND, then by the step's own lines of the refusal table in document 01's order. A load is answered at home,
- * component 0, as at a board: it is refused with HYL_OFF_RACK, HYL_NO_TOKEN or HYL_NO_DATA, in that order, and never with HYL_HOME. Whether the
- * record is sound is decided anew at each call: see hyl_run for many steps. */
+ * refused with HYL_TORN, then HYL_UNSOUND, then by the step's own lines of the refusal table in document 01's order. A load at home, component 0, is
+ * judged as one at a board: refused with HYL_OFF_RACK, HYL_NO_TOKEN or HYL_NO_DATA, in that order, never with HYL_HOME. Whether the record is sound is
+ * decided anew at each call: see hyl_run for many steps. */
 uint64_t hyl_step(uint8_t *rec, size_t rec_len, const uint8_t *step, size_t step_len);
 
 /* Gives the step records that stand one behind the other in a list, as so many calls of hyl_step would, but decides once whether the record is

@@ -1,22 +1,21 @@
 -- A load is decided by its lines other than 4, which are document 01's; and it changes nothing, so that one which is answered now leaves what the refused
--- one left. From one step to lists by induction.
-use Prim.Native.Nat.{ℕ, _≤_, _<_}
+-- one left. From one step to lists by induction. At home the tests of the table are 3's, and then 4's, which passes.
+use Prim.Native.Nat.{ℕ, _<_}
 use native.Mathlib.Omega.{arith}
 use mathlib.Core.Path.{_≡_, refl, sym, ap, _∙_, subst}
 use mathlib.Core.Logic.{⊎-elim}
 use mathlib.Core.Bool.{Bool, true, false, not, cond, _||_}
 use mathlib.Core.List.{List, [], _∷_}
-use borrow.Author.Tests.{ne-eqb, le-ltb, ltb-false, leb-false}
-use lib.ListN.{length, getD}
-use lib.Dec.{eqb, leb, ltb}
+use borrow.Author.Tests.{ne-eqb, le-ltb}
+use lib.ListN.{getD}
+use lib.Dec.{eqb}
 use Rattle.spec_base.specs.Number.{Bytes}
-use Rattle.spec_base.proofs.Tests.{differs, either, or-l, or-r, or-none}
+use Rattle.spec_base.proofs.Tests.{differs, either, or-none}
 use Rattle.spec_wire.specs.declared.Refusal.{Refusal}
 use Rattle.spec_wire.specs.declared.Refusal.the-variants.{Unsound, OffRack, Home, NoToken, NoData}
 use Rattle.spec_wire.specs.declared.Check.{Check}
 use Rattle.spec_wire.specs.declared.Check.the-variants.{Pass, Refuse}
 use Rattle.spec_wire.specs.Refusals.{when_refuse_else_}
-use Rattle.spec_wire.proofs.RefusalTable.{table}
 use Rattle.spec_wire.specs.declared.Step.{Step}
 use Rattle.spec_wire.specs.declared.Step.the-variants.{Load, Store, Send, Deliver, Raise, Lower, Forward}
 use Rattle.spec_wire.specs.declared.Reading.{Reading}
@@ -33,15 +32,19 @@ use Rattle.spec_rack.specs.RecordLayout.{get, put}
 use Rattle.spec_rack.specs.Soundness.{soundBytes}
 use Rattle.spec_rack.specs.Entries.{bufferAfterOutcome, outcomeBy, stepReply, stepAfter}
 use Rattle.spec_rack.specs.Lists.{runAll, ruledReply, ruledAfter}
-use Rattle.spec_rack.specs.HomeLoads.{checkBefore, rulesBefore, ruledReplyBefore, ruledAfterBefore, stepReplyBefore, stepAfterBefore, isHomeLoad, isHomeLoadIn, OrdinaryLoad, ValidLoads, SameList, SameOnRacks, SameOnBytes, StillRefused}
+use Rattle.spec_rack.specs.HomeLoads.{loadCheckBefore, rulesBefore, ruledReplyBefore, ruledAfterBefore, stepReplyBefore, stepAfterBefore, isHomeLoad, isHomeLoadIn, OrdinaryLoad, ValidLoads, SameList, SameOnRacks, SameOnBytes, StillRefused}
 use Rattle.spec_rack.proofs.SoundnessFacts.{sound-facts}
 use Rattle.spec_rack.proofs.BlockInvariant.{cell-sound}
+use Rattle.spec_rack.proofs.StepPreservation.{inN, inB}
 use Rattle.spec_rack.proofs.GetPut.{put-get}
 use Rattle.spec_rack.proofs.SoundRecord.{live-of}
 use Rattle.spec_rack.proofs.ByteLists.{runs}
 use Rattle.spec_rack.proofs.Effects.{every-list}
 
 -- ---- one load, with the line of home and without it
+
+abbrev word : Cell → ℕ → Answer
+word x w = Word (getD (x .words) w 0)
 
 -- what is said of both, where `rest` has the lines below
 module _ (rest : Check) (a : Answer) (r : Rack) where
@@ -82,28 +85,25 @@ step-left : (r : Rack) (t : Step) → ruledAfter r t ≡ ruledAfterBefore r t
 unfolding rules after
 step-left r =
     by-kind r (λ _ o o′. rackAfter r o ≡ rackAfter r o′) (λ _ o. refl)
-    (λ c b w. leaves (check r (Load c b w)) (answer r (Load c b w)) r ∙ sym (leaves (checkBefore r (Load c b w)) (answer r (Load c b w)) r))
+    (λ c b w. leaves (check r (Load c b w)) (answer r (Load c b w)) r ∙ sym (leaves (loadCheckBefore r c b w) (word (cellAt r b c) w) r))
 
 step-answered : (r : Rack) (t : Step) (a : Answer) → ruledReplyBefore r t ≡ Accepted a → ruledReply r t ≡ Accepted a
-unfolding rules check after
+unfolding rules check after answer
 step-answered r =
     by-kind r (λ _ o o′. (a : Answer) → reply o′ ≡ Accepted a → reply o ≡ Accepted a) (λ _ o a e. e)
-    (λ c b w. still-accepted _ (answer r (Load c b w)) r (offRack r c b || pastWords w) (eqb c 0))
+    (λ c b w. still-accepted _ (word (cellAt r b c) w) r (offRack r c b || pastWords w) (eqb c 0))
 
 step-other : (r : Rack) (t : Step) → isHomeLoad t ≡ false → rules r t ≡ rulesBefore r t
-unfolding rules check after
+unfolding rules check after answer
 step-other r =
     by-kind r (λ t o o′. isHomeLoad t ≡ false → o ≡ o′) (λ _ o _. refl)
-    (λ c b w. same-away _ (answer r (Load c b w)) r (offRack r c b || pastWords w) (eqb c 0))
+    (λ c b w. same-away _ (word (cellAt r b c) w) r (offRack r c b || pastWords w) (eqb c 0))
 
 -- ---- a load at home, by the ordinary rule
 
--- the lines of a load and its word, by whether it is off the rack and by its cell
+-- the lines of a load, by whether it is off the rack and by its cell
 abbrev lines : Bool → Cell → ℕ → Check
 lines off x w = when off || pastWords w refuse OffRack else when eqb (held x) 0 refuse NoToken else when not (x .valid) refuse NoData else Pass
-
-abbrev word : Cell → ℕ → Answer
-word x w = Word (getD (x .words) w 0)
 
 -- a reply does not tell the rack that is left
 any-rack : (k : Check) (a : Answer) (r r′ : Rack) → reply (settled k a r) ≡ reply (settled k a r′)
@@ -132,32 +132,30 @@ by-valid r a false false false on token = refl
 pub valid-loads : ValidLoads
 unfolding rules check answer after
 valid-loads r c b w ok on low =
+    let s = sound-facts r ok in
     by-valid r _ _ (eqb (held (cellAt r b c)) 0) (cellAt r b c .valid) (or-none _ _ on (le-ltb 7 w (omega arith)))
-    (λ valid. ne-eqb _ 0 (λ (none : held (cellAt r b c) ≡ 0). let some : 0 < held (cellAt r b c) = cell-sound r (sound-facts r ok) b c inB inN .token valid in absurd (omega arith)))
-  where
-    inN : c ≤ r .boards
-    inN = ltb-false _ _ (or-l (ltb (r .boards) c) (leb (length (r .blocks)) b) on)
-
-    inB : b < length (r .blocks)
-    inB = leb-false _ _ (or-r (ltb (r .boards) c) (leb (length (r .blocks)) b) on)
+    (λ valid.
+    ne-eqb _ 0
+    (λ (none : held (cellAt r b c) ≡ 0).
+    let some : 0 < held (cellAt r b c) = cell-sound r s b c (inB r s c b on) (inN r s c b on) .token valid in absurd (omega arith)))
 
 -- ---- from one item to lists
 
-module _ {S I : Type 0} (after before : S → I → S) (reply replyBefore : S → I → Reply) (homeLoad : I → Bool)
+module _ {S I : Type 0} (after afterBefore : S → I → S) (reply replyBefore : S → I → Reply) (homeLoad : I → Bool)
     (P : S → Type 0) (kept : (s : S) (x : I) → P s → P (after s x))
-    (left : (s : S) (x : I) → P s → after s x ≡ before s x)
+    (left : (s : S) (x : I) → P s → after s x ≡ afterBefore s x)
     (answered : (s : S) (x : I) (a : Answer) → replyBefore s x ≡ Accepted a → reply s x ≡ Accepted a)
     (other : (s : S) (x : I) → homeLoad x ≡ false → reply s x ≡ replyBefore s x) where
-  same-list : (items : List I) (s : S) → P s → SameList after before reply replyBefore homeLoad s items
+  same-list : (items : List I) (s : S) → P s → SameList after afterBefore reply replyBefore homeLoad s items
   unfolding runAll
   same-list [] s ok = record { state = refl; answered = answered s; others = other s }
   same-list (x ∷ xs) s ok =
       let rest = same-list xs (after s x) (kept s x ok) in
       let same = left s x ok in
       record {
-        state = rest .state ∙ ap (λ (q : S). runAll before q xs) same;
-        answered = λ y a e. rest .answered y a (subst (λ (q : S). replyBefore (runAll before q xs) y ≡ Accepted a) (sym same) e);
-        others = λ y e. rest .others y e ∙ ap (λ (q : S). replyBefore (runAll before q xs) y) same;
+        state = rest .state ∙ ap (λ (q : S). runAll afterBefore q xs) same;
+        answered = λ y a e. rest .answered y a (subst (λ (q : S). replyBefore (runAll afterBefore q xs) y ≡ Accepted a) (sym same) e);
+        others = λ y e. rest .others y e ∙ ap (λ (q : S). replyBefore (runAll afterBefore q xs) y) same;
       }
 
 pub same-on-racks : SameOnRacks
@@ -179,7 +177,7 @@ module _ (s : List ℕ) where
       by-kind (get s) (λ _ o o′. bufferAfterOutcome s o ≡ bufferAfterOutcome s o′) (λ _ o. refl)
       (λ c b w.
       writes-nothing s same (check (get s) (Load c b w)) (answer (get s) (Load c b w))
-      ∙ sym (writes-nothing s same (checkBefore (get s) (Load c b w)) (answer (get s) (Load c b w))))
+      ∙ sym (writes-nothing s same (loadCheckBefore (get s) c b w) (word (cellAt (get s) b c) w)))
 
   by-reading : (k : Reading) → (soundBytes s ≡ true → put (get s) s ≡ s)
       → bufferAfterOutcome s (outcomeBy rules k s) ≡ bufferAfterOutcome s (outcomeBy rulesBefore k s)
@@ -231,37 +229,23 @@ same-on-bytes s steps ok =
 
 -- ---- what home is still refused
 
-module _ (r : Rack) (b : ℕ) (known : b < length (r .blocks)) where
-  some : 0 ≤ r .boards
-  some = omega arith
-
-  store-home : (w v : ℕ) → w < 8 → Refuse Home ≡ check r (Store 0 b w v)
-  unfolding check
-  store-home w v low = search (table, some) depth 10
-
-  raise-home : Refuse Home ≡ check r (Raise 0 b)
-  unfolding check
-  raise-home = search (table, some) depth 10
-
-  lower-home : Refuse Home ≡ check r (Lower 0 b)
-  unfolding check
-  lower-home = search (table, some) depth 10
-
-  letter-home : Refuse Home ≡ letterCheck r 0 b
-  unfolding letterCheck
-  letter-home = search (table, some) depth 10
+-- at home the second test of the table passes, so the first decides
+at-home : (off : Bool) (rest : Check) → (when off refuse OffRack else when true refuse Home else rest) ≡ Refuse (cond off OffRack Home)
+unfolding when_refuse_else_
+at-home true rest = refl
+at-home false rest = refl
 
 -- a step whose check refuses it is refused
-refused-with : {n : Refusal} (r : Rack) (s : Step) → Refuse n ≡ check r s → ruledReply r s ≡ Refused n
+refused-with : {n : Refusal} (r : Rack) (t : Step) → check r t ≡ Refuse n → ruledReply r t ≡ Refused n
 unfolding rules
-refused-with r s e = ap (λ (k : Check). reply (settled k (answer r s) (after r s))) (sym e)
+refused-with r t e = ap (λ (k : Check). reply (settled k (answer r t) (after r t))) e
 
 pub still-refused : StillRefused
-unfolding letter
+unfolding check letterCheck letter
 still-refused =
     record {
-      store = λ r b w v known low. refused-with r (Store 0 b w v) (store-home r b known w v low);
-      raise = λ r b known. refused-with r (Raise 0 b) (raise-home r b known);
-      lower = λ r b known. refused-with r (Lower 0 b) (lower-home r b known);
-      letter-at-home = λ r b known. ap (λ (k : Check). lettered k (letterOf (r .tokens) (cellAt r b 0))) (sym (letter-home r b known));
+      store = λ r b w v. refused-with r (Store 0 b w v) (at-home (offRack r 0 b || pastWords w) _);
+      raise = λ r b. refused-with r (Raise 0 b) (at-home (offRack r 0 b) _);
+      lower = λ r b. refused-with r (Lower 0 b) (at-home (offRack r 0 b) _);
+      letter-at-home = λ r b. ap (λ (k : Check). lettered k (letterOf (r .tokens) (cellAt r b 0))) (at-home (offRack r 0 b) _);
     }

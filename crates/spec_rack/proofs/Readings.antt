@@ -215,6 +215,6 @@ printed =
       bad-sizes = refl;
       example = refl;
       whom = refl;
-      home = refl;
+      home-loads = refl;
       torn-ones = refl;
     }

@@ -98,10 +98,10 @@ module _ (r : Rack) (s : Sound r) where
   in-mesh i h = omega (arith, leb-false)
 
   module _ (c b : ℕ) (on : offRack r c b ≡ false) where
-    inN : c ≤ r .boards
+    pub inN : c ≤ r .boards
     inN = ltb-false _ _ (or-l (ltb (r .boards) c) (leb (length (r .blocks)) b) on)
 
-    inB : b < length (r .blocks)
+    pub inB : b < length (r .blocks)
     inB = leb-false _ _ (or-r (ltb (r .boards) c) (leb (length (r .blocks)) b) on)
 
     claims-sound : SoundClaims (r .boards) (claimsAt r b)

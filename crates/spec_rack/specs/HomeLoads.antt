@@ -1,10 +1,10 @@
 -- Document 02, No. 7: a load at home is answered by the ordinary load rule. The definition is `check` in Rules.antt, which no longer has document 01's
--- line 4 for a load; here is what that means for home, and that all else is as it was.
+-- line 4 for a load; here is what that means for home, what stays of document 01's loads, and what home is still refused.
 use Prim.Native.Nat.{ℕ, _<_}
 use mathlib.Core.Path.{_≡_}
 use mathlib.Core.Bool.{Bool, true, false, not, cond, _||_}
 use mathlib.Core.List.{List}
-use lib.ListN.{length, getD}
+use lib.ListN.{getD}
 use lib.Dec.{eqb}
 use Rattle.spec_base.specs.Number.{Bytes}
 use Rattle.spec_wire.specs.declared.Refusal.the-variants.{OffRack, Home, NoToken, NoData}
@@ -23,29 +23,29 @@ use Rattle.spec_rack.specs.declared.Reply.the-variants.{Accepted, Refuse
 use Rattle.spec_rack.specs.declared.Lettered.the-variants as Lettered
 use Rattle.spec_rack.specs.Rack.{Rack, cellAt, held}
 use Rattle.spec_rack.specs.Soundness.{sound}
-use Rattle.spec_rack.specs.Rules.{Outcome, settled, check, after, answer, offRack, pastWords, reply, rackAfter}
+use Rattle.spec_rack.specs.Rules.{Outcome, settled, rules, offRack, pastWords, reply, rackAfter}
 use Rattle.spec_rack.specs.Letter.{letter}
 use Rattle.spec_rack.specs.Entries.{bufferAfterOutcome, outcomeBy, stepReply, stepAfter}
 use Rattle.spec_rack.specs.Lists.{runAll, ruledReply, ruledAfter}
 
--- ---- before: document 01's lines for a load, with 4 at home; the other steps as they are
+-- ---- before: a load as document 01 has it, with 4 at home; every other step by the rules of today
 
-abbrev pub checkBefore : Rack → Step → Check
-checkBefore r (Load c b w) =
+abbrev pub loadCheckBefore : Rack → ℕ → ℕ → ℕ → Check
+loadCheckBefore r c b w =
     when offRack r c b || pastWords w refuse OffRack else
     when eqb c 0 refuse Home else
     when eqb (held (cellAt r b c)) 0 refuse NoToken else
     when not (cellAt r b c .valid) refuse NoData else
     Pass
-checkBefore r (Store c b w v) = check r (Store c b w v)
-checkBefore r (Send c b t p o d) = check r (Send c b t p o d)
-checkBefore r (Deliver i) = check r (Deliver i)
-checkBefore r (Raise c b) = check r (Raise c b)
-checkBefore r (Lower c b) = check r (Lower c b)
-checkBefore r (Forward c b) = check r (Forward c b)
 
 abbrev pub rulesBefore : Rack → Step → Outcome
-rulesBefore r s = settled (checkBefore r s) (answer r s) (after r s)
+rulesBefore r (Load c b w) = settled (loadCheckBefore r c b w) (Word (getD (cellAt r b c .words) w 0)) r
+rulesBefore r (Store c b w v) = rules r (Store c b w v)
+rulesBefore r (Send c b t p o d) = rules r (Send c b t p o d)
+rulesBefore r (Deliver i) = rules r (Deliver i)
+rulesBefore r (Raise c b) = rules r (Raise c b)
+rulesBefore r (Lower c b) = rules r (Lower c b)
+rulesBefore r (Forward c b) = rules r (Forward c b)
 
 -- on a rack, and on the record in a lent buffer
 abbrev pub ruledReplyBefore : Rack → Step → Reply
@@ -62,8 +62,8 @@ stepAfterBefore s bytes = bufferAfterOutcome s (outcomeBy rulesBefore (readRecor
 
 -- ---- a load at home is answered by the ordinary load rule, 5 and 6 included
 
--- Home's cell of block b is that of board c of block b′ on a second rack, and the blocks are both on their racks or both off: the load at home is answered
--- as document 01 has the board's load answered.
+-- Home's cell of block b is that of board c of block b′ on a second rack, and block b is off its rack exactly where board c or block b′ is off its: the load
+-- at home has the reply that document 01 gives to the board's.
 abbrev pub OrdinaryLoad : Type 0
 OrdinaryLoad =
     (r r′ : Rack) (b b′ c w : ℕ) → (c ≡ 0 → ⊥) → offRack r 0 b ≡ offRack r′ c b′ → cellAt r b 0 ≡ cellAt r′ b′ c
@@ -76,7 +76,7 @@ ValidLoads =
     → ruledReply r (Load c b w)
     ≡ cond (cellAt r b c .valid) (Accepted (Word (getD (cellAt r b c .words) w 0))) (Refused (cond (eqb (held (cellAt r b c)) 0) NoToken NoData))
 
--- ---- every load that was answered before gives the same, and all else is as it was
+-- ---- every load that was answered before gives the same, every other load at a board has the same reply, and every list leaves the same
 
 abbrev pub isHomeLoad : Step → Bool
 isHomeLoad (Load c b w) = eqb c 0
@@ -93,14 +93,14 @@ isHomeLoadIn (NoStep n) = false
 
 -- A list of items given to a state, by what one item leaves and what is replied to it, now and before; and an item x behind the list. As every item of a
 -- list stands behind a shorter one, this is said of each reply to a list.
-module _ {S I : Type 0} (after before : S → I → S) (reply replyBefore : S → I → Reply) (homeLoad : I → Bool) where
+module _ {S I : Type 0} (after afterBefore : S → I → S) (reply replyBefore : S → I → Reply) (homeLoad : I → Bool) where
   pub record SameList (s : S) (items : List I) : Type 0 where
     -- it leaves the same
-    pub state : runAll after s items ≡ runAll before s items
+    pub state : runAll after s items ≡ runAll afterBefore s items
     -- what was accepted before is accepted with the same answer: an answered load gives the same word
-    pub answered : (x : I) (a : Answer) → replyBefore (runAll before s items) x ≡ Accepted a → reply (runAll after s items) x ≡ Accepted a
+    pub answered : (x : I) (a : Answer) → replyBefore (runAll afterBefore s items) x ≡ Accepted a → reply (runAll after s items) x ≡ Accepted a
     -- and what is no load at home has the same reply, refused or not
-    pub others : (x : I) → homeLoad x ≡ false → reply (runAll after s items) x ≡ replyBefore (runAll before s items) x
+    pub others : (x : I) → homeLoad x ≡ false → reply (runAll after s items) x ≡ replyBefore (runAll afterBefore s items) x
 
 -- of every list of steps on every rack
 abbrev pub SameOnRacks : Type 0
@@ -112,10 +112,10 @@ SameOnBytes =
     (s : List ℕ) (steps : List (List ℕ)) → Bytes s
     → SameList stepAfter stepAfterBefore stepReply stepReplyBefore (λ bytes. isHomeLoadIn (readRecord bytes)) s steps
 
--- ---- stores, raises, lowers and letters at home are still refused with 4, where block and word are on the rack
+-- ---- stores, raises, lowers and letters at home are still refused with 4, and off the rack with 3 before it, on every rack
 
 pub record StillRefused : Type 0 where
-  pub store : (r : Rack) (b w v : ℕ) → b < length (r .blocks) → w < 8 → ruledReply r (Store 0 b w v) ≡ Refused Home
-  pub raise : (r : Rack) (b : ℕ) → b < length (r .blocks) → ruledReply r (Raise 0 b) ≡ Refused Home
-  pub lower : (r : Rack) (b : ℕ) → b < length (r .blocks) → ruledReply r (Lower 0 b) ≡ Refused Home
-  pub letter-at-home : (r : Rack) (b : ℕ) → b < length (r .blocks) → letter r 0 b ≡ Lettered.Refused Home
+  pub store : (r : Rack) (b w v : ℕ) → ruledReply r (Store 0 b w v) ≡ Refused (cond (offRack r 0 b || pastWords w) OffRack Home)
+  pub raise : (r : Rack) (b : ℕ) → ruledReply r (Raise 0 b) ≡ Refused (cond (offRack r 0 b) OffRack Home)
+  pub lower : (r : Rack) (b : ℕ) → ruledReply r (Lower 0 b) ≡ Refused (cond (offRack r 0 b) OffRack Home)
+  pub letter-at-home : (r : Rack) (b : ℕ) → letter r 0 b ≡ Lettered.Refused (cond (offRack r 0 b) OffRack Home)

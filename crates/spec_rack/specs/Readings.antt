@@ -104,7 +104,7 @@ pub record FirstMatch : Type 0 where
   pub home-4-claimed : met claimedFull (Raise 0 0 ∷ Lower 0 0 ∷ []) ≡ 4 ∷ 4 ∷ []
   -- and at home where it holds all T, so that no line but 4 stops a store
   pub home-4-all : met two (Store 0 0 0 1 ∷ []) ≡ 4 ∷ []
-  -- a load at home: 5 where it holds nothing, and else it is answered (document 02, No. 7)
+  -- a load at home (document 02, No. 7): 5 of block 0, of which it holds nothing; of block 1 it has tokens and valid words, and is answered
   pub home-5 : met full (Load 0 0 0 ∷ Load 0 1 0 ∷ []) ≡ 5 ∷ 0 ∷ []
   -- 6, and a store's 4: home gives all to board 1 and gets a plain token back without data
   pub home-6 :
@@ -366,8 +366,8 @@ joined [] = []
 joined (b ∷ bs) = b ++ joined bs
 
 -- the step record of a load at component 0, block 0, word 0
-abbrev pub homeLoad : List ℕ
-homeLoad = 0x10 ∷ 0x00 ∷ 0x0C ∷ 0x01 ∷ 0x00 ∷ 0x01 ∷ 0x00 ∷ 0x02 ∷ 0x00 ∷ 0x01 ∷ 0x00 ∷ 0x03 ∷ 0x00 ∷ 0x01 ∷ 0x00 ∷ []
+abbrev pub homeLoadBytes : List ℕ
+homeLoadBytes = 0x10 ∷ 0x00 ∷ 0x0C ∷ 0x01 ∷ 0x00 ∷ 0x01 ∷ 0x00 ∷ 0x02 ∷ 0x00 ∷ 0x01 ∷ 0x00 ∷ 0x03 ∷ 0x00 ∷ 0x01 ∷ 0x00 ∷ []
 
 pub record Printed : Type 0 where
   -- "0 ok", "4 v0000002a", "5 r5", "21845 r20", each with its newline
@@ -406,8 +406,8 @@ pub record Printed : Type 0 where
       ∷ (53 ∷ 32 ∷ 114 ∷ 49 ∷ 52 ∷ 10 ∷ [])
       ∷ [])
   -- A load at home, byte for byte, all tokens sent to board 1, and the load again (document 02, No. 7): "0 ok", "1 v00000000", "2 ok", "3 r5"
-  pub home :
-      ruledText (0x02 ∷ 0x01 ∷ 0x03 ∷ joined (homeLoad ∷ stepBytes (Send 0 0 1 2 true true) ∷ homeLoad ∷ []))
+  pub home-loads :
+      ruledText (0x02 ∷ 0x01 ∷ 0x03 ∷ joined (homeLoadBytes ∷ stepBytes (Send 0 0 1 2 true true) ∷ homeLoadBytes ∷ []))
       ≡ joined
       ((48 ∷ 32 ∷ 111 ∷ 107 ∷ 10 ∷ [])
       ∷ (49 ∷ 32 ∷ 118 ∷ 48 ∷ 48 ∷ 48 ∷ 48 ∷ 48 ∷ 48 ∷ 48 ∷ 48 ∷ 10 ∷ [])

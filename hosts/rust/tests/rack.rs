@@ -1,4 +1,4 @@
-//! The examples of document 01 and of request 7, and the edges of the wrapper, over the proved
+//! The examples of document 01, loads at home, and the edges of the wrapper, over the proved
 //! archives.
 
 use hyaloneth::script::reply_text;

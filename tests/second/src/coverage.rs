@@ -256,6 +256,7 @@ impl Coverage {
     pub fn gaps(&self) -> Vec<String> {
         let mut gaps = self.delivered.gaps();
         gaps.extend(missing(&AT_HOME, &self.at_home).map(|step| format!("no {step} at home")));
+        // The replies are the model's in both counts: this guards the comparison itself.
         let answered: u64 = self.at_home[..ANSWERED].iter().sum();
         if self.flat_home_loads != answered {
             gaps.push(format!("the flat memory was handed {} of {answered} loads that were answered at home", self.flat_home_loads));

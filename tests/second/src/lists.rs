@@ -201,7 +201,7 @@ impl Lists {
         }
     }
 
-    /// Who loads: mostly a holder, home as often as another.
+    /// Who loads: while gathering mostly the board of the stretch; else mostly a holder, home like any other.
     fn reader(&mut self, rack: &Rack, block: u8, mood: Mood) -> u8 {
         if mood == Mood::Gather && self.rng.percent(70) {
             return self.board;

@@ -13,7 +13,8 @@ use Rattle.step_access.proofs.load.Tie as tie
 off-rack-word-requires : tie.Need-off-rack-word-requires
 off-rack-word-requires c κs = search needs
 
--- The facts are looked for, and the word's reply comes before its refusal: so a line too many or too few is refused at the reply that is then wrong.
+-- Each reply's facts are found by search. `returns-4` (the word) stands before `returns-3` (6), so that an edit which adds or drops a line is refused at the
+-- reply that it makes wrong.
 returns : tie.Need-returns
 returns c = refused-is _ _ (search load-off-rack)
 

@@ -32,8 +32,8 @@ impl Engine {
         Engine { name, layout, step, run, serves, reads_home }
     }
 
-    /// Whether its replies are these, or what an archive from before gives in their place: done where a deliver says whom it served, and 4 for a load,
-    /// whose reply does not tell whether it is at home.
+    /// Whether its replies are these, or what an archive from before gives in their place: done where a deliver says whom it served, and 4 for a load
+    /// at home. A word, 5 or 6 does not tell where a load was, nor 5 and 6 a load from a forward or a send: 4 is taken for any of them.
     pub fn agrees(&self, replies: &[u64], want: &[u64]) -> bool {
         let load = |reply: u64| reply >> 56 == 2 || [Refusal::NoToken, Refusal::NoData].map(reply::refused).contains(&reply);
         let same = |reply: u64, want: u64| match want >> 56 {
