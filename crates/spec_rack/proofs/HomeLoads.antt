@@ -72,7 +72,6 @@ leaves (Refuse n) a r = refl
 -- what is true of a load's two outcomes, and of an outcome beside itself, is true of those of every step
 by-kind : (r : Rack) (P : Step → Outcome → Outcome → Type 0) → ((t : Step) (o : Outcome) → P t o o)
     → ((c b w : ℕ) → P (Load c b w) (rules r (Load c b w)) (rulesBefore r (Load c b w))) → (t : Step) → P t (rules r t) (rulesBefore r t)
-unfolding rules
 by-kind r P same load (Load c b w) = load c b w
 by-kind r P same load (Store c b w v) = same (Store c b w v) _
 by-kind r P same load (Send c b t p o d) = same (Send c b t p o d) _
