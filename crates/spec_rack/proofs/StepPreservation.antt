@@ -184,14 +184,14 @@ module _ (r : Rack) (s : Sound r) where
       given (Goal (Raise c b)) (raiseCheck (claimsAt r b) c) λ free.
       moved (Raise c b) _ _ _ _ refl refl
       (claims-keep r s b (raised (claimsAt r b) c) (inB c b on)
-      (raised-sound (claims-sound c b on) (some c board) (inN c b on) few-boards free))
+      (raised-sound (claims-sound c b on) (search some) (inN c b on) few-boards free))
   passed (Lower c b) =
       let past = guard (Goal (Lower c b)) in
       past _ _ _ λ on.
       past _ _ _ λ board.
       given (Goal (Lower c b)) (lowerCheck (claimsAt r b) c) λ waiting.
       moved (Lower c b) _ _ _ _ refl refl
-      (claims-keep r s b (lowered (claimsAt r b) c) (inB c b on) (lowered-sound (claims-sound c b on) (some c board) (inN c b on)))
+      (claims-keep r s b (lowered (claimsAt r b) c) (inB c b on) (lowered-sound (claims-sound c b on) (search some) (inN c b on)))
   passed (Forward c b) =
       let past = guard (Goal (Forward c b)) in
       past _ _ _ λ on.
