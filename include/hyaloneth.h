@@ -9,6 +9,11 @@
  * HYL_COMPONENT_OF and HYL_BLOCK_OF take it apart. A call that is refused changes nothing that was lent. No call relies on its caller having looked
  * first: every buffer, record, step and number is refused or accepted by its contents.
  *
+ * The owner token of a block has a mark, clean or dirty, wherever it is. Fresh owners are clean. An accepted store makes the owner dirty, also a store
+ * of the value that was there already. A delivery to home makes it clean. Otherwise the mark travels as it is. Where the owner is clean, home has the
+ * words of the block, so the owner may go home without data: a send with owner 1, data 0 and target 0. The mark is no field of a step record.
+ * hyl_view_dirty and hyl_view_message_dirty of hyaloneth_view.h read it.
+ *
  * An accepted deliver gives HYL_SERVED, never HYL_DONE. So a caller that takes HYL_KIND(result) == HYL_DONE for "accepted" takes every deliver for a
  * refused one: ask HYL_KIND(result) != HYL_REFUSED, or for HYL_SERVED.
  *
@@ -70,7 +75,7 @@ static inline uint32_t hyl_block_of(uint64_t result)
 #define HYL_CLAIMED 9u      /* send of a block that has an active board */
 #define HYL_EMPTY 10u       /* send of no token */
 #define HYL_NOT_HELD 11u    /* send of more plain than held, or an owner not held */
-#define HYL_BARE_OWNER 12u  /* send of the owner, data no */
+#define HYL_BARE_OWNER 12u  /* send of the owner, data no: a dirty owner, or any owner to a board */
 #define HYL_MESH_FULL 13u   /* send or forward, 64 in flight */
 #define HYL_NO_MESSAGE 14u  /* position not below the count in flight */
 #define HYL_WAITING 15u     /* raise by a waiting board */
@@ -85,9 +90,12 @@ static inline uint32_t hyl_block_of(uint64_t result)
 /* How many bytes the record of a rack of `blocks` blocks takes: done with the count, or refused with HYL_SIZE where blocks is not 1 to 32. */
 uint64_t hyl_record_len(uint32_t blocks);
 
-/* Opens a record at the front of a buffer: home holds all tokens of each block, valid, and all words are 0. What the buffer held before does not
- * matter, and its bytes past the record stay as they are. So do the bytes that the layout leaves as room: two records with the same figures may
- * differ there.
+/* Opens a record at the front of a buffer: home holds all tokens of each block, valid, the owners are clean, and all words are 0. What the buffer
+ * held before does not matter, and its bytes past the record stay as they are. So do the bytes that the layout leaves as room: two records with the
+ * same figures may differ there.
+ *
+ * A record that was opened before owners had marks is not to be used any longer: open a new one. The marks stand where it has room, in bytes that
+ * nobody wrote. It may be refused with HYL_UNSOUND, or be sound with marks that are wrong.
  *   rec, rec_len  the buffer, and how many bytes it has
  *   boards        N, 1 to 15
  *   blocks        B, 1 to 32
@@ -100,8 +108,9 @@ uint64_t hyl_open(uint8_t *rec, size_t rec_len, uint32_t boards, uint32_t blocks
  *   step, step_len  the bytes of the step record, all of them
  * HYL_WORD_GIVEN with the word for a load, HYL_SERVED with the target and the block of its message for a deliver, HYL_DONE for any other step;
  * refused with HYL_TORN, then HYL_UNSOUND, then by the step's own lines of the refusal table in document 01's order. A load at home, component 0, is
- * judged as one at a board: refused with HYL_OFF_RACK, HYL_NO_TOKEN or HYL_NO_DATA, in that order, never with HYL_HOME. Whether the record is sound is
- * decided anew at each call: see hyl_run for many steps. */
+ * judged as one at a board: refused with HYL_OFF_RACK, HYL_NO_TOKEN or HYL_NO_DATA, in that order, never with HYL_HOME. A send of the owner needs data,
+ * but for a clean owner to home. Plain tokens may go with it; delivered, it makes home valid with the words that home has. Whether the record is sound
+ * is decided anew at each call: see hyl_run for many steps. */
 uint64_t hyl_step(uint8_t *rec, size_t rec_len, const uint8_t *step, size_t step_len);
 
 /* Gives the step records that stand one behind the other in a list, as so many calls of hyl_step would, but decides once whether the record is

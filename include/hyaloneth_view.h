@@ -38,6 +38,7 @@ extern "C" {
 #define HYL_VIEW_MESSAGE_PLAIN_AT 3
 #define HYL_VIEW_MESSAGE_OWNER_AT 4
 #define HYL_VIEW_MESSAGE_DATA_AT 5
+#define HYL_VIEW_MESSAGE_DIRTY_AT 6
 #define HYL_VIEW_MESSAGE_WORDS_AT 8 /* eight words */
 
 /* The blocks stand one after the other. In a block, where a figure of component 0 stands; those of the next components follow: */
@@ -46,6 +47,7 @@ extern "C" {
 #define HYL_VIEW_PLAIN_AT 0
 #define HYL_VIEW_OWNER_AT 16
 #define HYL_VIEW_VALID_AT 32
+#define HYL_VIEW_DIRTY_AT 48
 #define HYL_VIEW_BARRING_AT 80 /* a set for each component; home's is always 0 */
 #define HYL_VIEW_WORDS_AT 120  /* eight words for each component */
 
@@ -143,7 +145,13 @@ static inline uint32_t hyl_view_message_owner(const uint8_t *rec, uint32_t i)
     return rec[hyl_view_message_at(i) + HYL_VIEW_MESSAGE_OWNER_AT];
 }
 
-/* 1 where it carries the words, else 0. */
+/* 1 where it carries the owner and the owner is dirty, else 0: a clean owner, or none. */
+static inline uint32_t hyl_view_message_dirty(const uint8_t *rec, uint32_t i)
+{
+    return rec[hyl_view_message_at(i) + HYL_VIEW_MESSAGE_DIRTY_AT];
+}
+
+/* 1 where it carries the words, else 0. With the owner it is 0 only where the owner is clean and goes home. */
 static inline uint32_t hyl_view_message_data(const uint8_t *rec, uint32_t i)
 {
     return rec[hyl_view_message_at(i) + HYL_VIEW_MESSAGE_DATA_AT];
@@ -167,6 +175,13 @@ static inline uint32_t hyl_view_plain(const uint8_t *rec, uint32_t component, ui
 static inline uint32_t hyl_view_owner(const uint8_t *rec, uint32_t component, uint32_t block)
 {
     return rec[hyl_view_block_at(block) + HYL_VIEW_OWNER_AT + component];
+}
+
+/* 1 where it holds the owner and the owner is dirty, else 0: a clean owner, or none. Where hyl_view_owner is 1 and this is 0, a board may send
+ * the owner home without data. */
+static inline uint32_t hyl_view_dirty(const uint8_t *rec, uint32_t component, uint32_t block)
+{
+    return rec[hyl_view_block_at(block) + HYL_VIEW_DIRTY_AT + component];
 }
 
 /* How many tokens it holds: plain plus owner. */

@@ -1,5 +1,5 @@
-//! A second count of damaged records that are sound, written from document 01's "Sound means" and docs/RECORD.md.
-//! It prints what the program of crate `test_damage` prints; the two are compared.
+//! A second count of damaged records that are sound, written from document 01's "Sound means", with No. 2 of document 02, and
+//! docs/RECORD.md. It prints what the program of crate `test_damage` prints; the two are compared.
 
 // The layout of docs/RECORD.md: where messages and blocks start, and the figures within them.
 const MESSAGES: usize = 32;
@@ -9,6 +9,7 @@ const BLOCKS: usize = 2592;
 const BLOCK_SIZE: usize = 632;
 const OWNERS: usize = 16;
 const VALID_MARKS: usize = 32;
+const DIRTY_MARKS: usize = 48;
 const BARRING_SETS: usize = 80;
 const WAITING_SET: usize = 112;
 
@@ -20,6 +21,7 @@ struct Cell {
     plain: u32,
     owner: u8,
     valid: u8,
+    dirty: u8,
 }
 
 struct Message {
@@ -29,7 +31,8 @@ struct Message {
     plain: u32,
     owner: u8,
     data: u8,
-    spare: [u8; 2],
+    dirty: u8,
+    spare: u8,
     clear: bool,
 }
 
@@ -39,7 +42,7 @@ fn number(bytes: &[u8]) -> u32 {
 
 fn cell(rec: &[u8], block: usize, component: usize) -> Cell {
     let at = BLOCKS + BLOCK_SIZE * block + component;
-    Cell { plain: rec[at].into(), owner: rec[at + OWNERS], valid: rec[at + VALID_MARKS] }
+    Cell { plain: rec[at].into(), owner: rec[at + OWNERS], valid: rec[at + VALID_MARKS], dirty: rec[at + DIRTY_MARKS] }
 }
 
 fn message(rec: &[u8], i: usize) -> Message {
@@ -51,9 +54,15 @@ fn message(rec: &[u8], i: usize) -> Message {
         plain: m[3].into(),
         owner: m[4],
         data: m[5],
-        spare: [m[6], m[7]],
+        dirty: m[6],
+        spare: m[7],
         clear: m[MESSAGE_WORDS..].chunks(4).all(|word| number(word) == 0),
     }
+}
+
+/// Whether two bytes are an owner, there or not, with its mark: none where it is not there.
+fn owner_and_mark(owner: u8, dirty: u8) -> bool {
+    matches!((owner, dirty), (0, 0) | (1, 0) | (1, 1))
 }
 
 fn waiting_set(rec: &[u8], block: usize) -> u32 {
@@ -76,16 +85,16 @@ fn sound(rec: &[u8]) -> bool {
     }
     let messages: Vec<Message> = (0..m).map(|i| message(rec, i)).collect();
     let known = messages.iter().all(|x| {
-        x.owner <= 1
+        owner_and_mark(x.owner, x.dirty)
             && x.data <= 1
-            && x.spare == [0, 0]
+            && x.spare == 0
             && (x.data == 1 || x.clear)
             && usize::from(x.sender) <= n
             && usize::from(x.target) <= n
             && x.sender != x.target
             && usize::from(x.block) < b
             && x.plain + u32::from(x.owner) >= 1
-            && (x.owner == 0 || x.data == 1)
+            && (x.owner == 0 || x.data == 1 || x.dirty == 0 && x.target == 0)
     });
     known
         && (0..b).all(|k| {
@@ -95,7 +104,7 @@ fn sound(rec: &[u8]) -> bool {
             let owners: u32 =
                 cells.iter().map(|x| u32::from(x.owner)).sum::<u32>() + flying.iter().map(|x| u32::from(x.owner)).sum::<u32>();
             let marks = cells.iter().all(|x| {
-                x.owner <= 1
+                owner_and_mark(x.owner, x.dirty)
                     && x.valid <= 1
                     && (x.valid == 0 || x.plain + u32::from(x.owner) >= 1)
                     && (x.owner == 0 || x.valid == 1)
@@ -110,7 +119,7 @@ fn sound(rec: &[u8]) -> bool {
             // The layout has 0 where a component is above N, and where home would have a barring set.
             let spare = (n + 1..PLACES).all(|c| {
                 let x = cell(rec, k, c);
-                x.plain == 0 && x.owner == 0 && x.valid == 0 && barring_set(rec, k, c) == 0
+                x.plain == 0 && x.owner == 0 && x.valid == 0 && x.dirty == 0 && barring_set(rec, k, c) == 0
             }) && barring_set(rec, k, 0) == 0;
             plain + owners == t && owners == 1 && marks && sets && spare
         })
@@ -141,7 +150,7 @@ fn fresh(n: u8, b: u8, t: u8) -> Vec<u8> {
     rec
 }
 
-/// Sets the plain count, the owner's mark and the valid mark of a component.
+/// Sets the plain count, the owner and the valid mark of a component.
 fn put_cell(rec: &mut [u8], block: usize, component: usize, figures: [u8; 3]) {
     let at = BLOCKS + BLOCK_SIZE * block + component;
     for (lane, figure) in [0, OWNERS, VALID_MARKS].iter().zip(figures) {
@@ -165,4 +174,11 @@ fn main() {
     rec[BLOCKS + WAITING_SET + 1] = 1 << 2;
     rec[BLOCKS + BARRING_SETS + 2 + 1] = 1 << 2;
     println!("busy: {}", damaged(&mut rec));
+    // The owner on its way home instead: clean and without data, then dirty and with data.
+    let message = MESSAGES + MESSAGE_SIZE;
+    rec[message..][..6].copy_from_slice(&[1, 0, 0, 0, 1, 0]);
+    rec[message + MESSAGE_WORDS + 3] = 0;
+    println!("bare: {}", damaged(&mut rec));
+    (rec[message + 5], rec[message + 6], rec[message + MESSAGE_WORDS + 3]) = (1, 1, 7);
+    println!("dirty: {}", damaged(&mut rec));
 }

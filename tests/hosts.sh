@@ -96,6 +96,11 @@ for seed in 1 2 3; do
     quietly "policy_sanitized_$seed" "$out/policy.sanitized" $seed
     same "$out/policy_rust_$seed.log" "$out/policy_c_$seed.log"
     same "$out/policy_rust_$seed.log" "$out/policy_sanitized_$seed.log"
+    # A policy that never sends a clean owner home bare would leave that untried.
+    if grep "(0 bare)" "$out/policy_rust_$seed.log"; then
+        echo "failed: a policy made no bare send"
+        exit 1
+    fi
 done
 cat "$out/policy_rust_1.log"
 echo "hosts: the policies in Rust and C agree, 3 seeds"

@@ -1,6 +1,6 @@
 /* Compares the view of include/hyaloneth_view.h with a second account of the rack: plain arrays that change by document 01's rules at each step that
  * the engine accepts, and know no bytes. Every figure is compared after every accepted step, so that a wrong offset is found; so are whom a deliver
- * served and what a load gives, at home too. Exits with 1 at the first difference.
+ * served, what a load gives, at home too, and what a send of the owner without data gives. Exits with 1 at the first difference.
  *
  * Argument, if any: a file. Some of the records go there, one after the other, and their figures to the standard output, in the form that
  * hosts/rust/examples/figures.rs prints them in. */
@@ -30,13 +30,13 @@ static uint32_t any_word(void)
     return any(0x10000) << 16 | any(0x10000);
 }
 
-/* The rack as document 01 tells it. */
+/* The rack as document 01 tells it, with the owner's mark of document 02's No. 2: dirty is 1 for a dirty owner, 0 for a clean one and for none. */
 struct cell {
-    uint32_t plain, owner, valid, words[8];
+    uint32_t plain, owner, dirty, valid, words[8];
 };
 
 struct message {
-    uint32_t sender, target, block, plain, owner, data, words[8];
+    uint32_t sender, target, block, plain, owner, dirty, data, words[8];
 };
 
 static struct {
@@ -52,6 +52,8 @@ static FILE *records;
 static unsigned long accepted, kinds[8], figures, fullest;
 /* Loads at home by their refusal, 0 where they are answered; and how many gave a word that is not 0. */
 static unsigned long home_loads[HYL_NO_DATA + 1], home_words;
+/* Sends of the owner without data, by the owner's mark and by whether the target is a board. Only those of a clean owner to home are accepted. */
+static unsigned long bare_sends[2][2];
 
 static uint32_t active(uint32_t block)
 {
@@ -74,12 +76,14 @@ static void send(uint32_t from, uint32_t block, uint32_t target, uint32_t plain,
     message->block = block;
     message->plain = plain;
     message->owner = owner;
+    message->dirty = owner ? cell->dirty : 0;
     message->data = data;
     memset(message->words, 0, sizeof message->words);
     if (data)
         memcpy(message->words, cell->words, sizeof cell->words);
     cell->plain -= plain;
     cell->owner -= owner;
+    cell->dirty -= message->dirty;
     if (cell->plain + cell->owner == 0)
         cell->valid = 0;
 }
@@ -93,10 +97,13 @@ static void deliver(uint32_t position)
     memmove(&rack.mesh[position], &rack.mesh[position + 1], (rack.in_flight - position) * sizeof message);
     cell->plain += message.plain;
     cell->owner += message.owner;
-    if (message.data) {
+    /* The owner becomes clean at home. There it brings the valid mark also without data, and the words stay. */
+    if (message.target > 0)
+        cell->dirty += message.dirty;
+    if (message.data || (message.target == 0 && message.owner))
         cell->valid = 1;
+    if (message.data)
         memcpy(cell->words, message.words, sizeof cell->words);
-    }
 }
 
 static void lower(uint32_t board, uint32_t block)
@@ -117,6 +124,7 @@ static void apply(const uint32_t n[HYL_WIRE_PLACES])
     switch (n[0]) {
     case HYL_STORE:
         rack.cell[block][component].words[n[HYL_WORD]] = n[HYL_VALUE];
+        rack.cell[block][component].dirty = 1;
         break;
     case HYL_SEND:
         send(component, block, n[HYL_TARGET], n[HYL_PLAIN], n[HYL_OWNER], n[HYL_DATA]);
@@ -162,6 +170,7 @@ static void compare(void)
         same("a message's block", hyl_view_message_block(rec, i), message->block);
         same("a message's plain count", hyl_view_message_plain(rec, i), message->plain);
         same("a message's owner", hyl_view_message_owner(rec, i), message->owner);
+        same("a message's dirty mark", hyl_view_message_dirty(rec, i), message->dirty);
         same("a message's data", hyl_view_message_data(rec, i), message->data);
         for (w = 0; w < 8; w++)
             same("a message's word", hyl_view_message_word(rec, i, w), message->words[w]);
@@ -172,7 +181,8 @@ static void compare(void)
         for (c = 0; c <= rack.boards; c++) {
             const struct cell *cell = &rack.cell[block][c];
             same("a plain count", hyl_view_plain(rec, c, block), cell->plain);
-            same("an owner's mark", hyl_view_owner(rec, c, block), cell->owner);
+            same("an owner", hyl_view_owner(rec, c, block), cell->owner);
+            same("a dirty mark", hyl_view_dirty(rec, c, block), cell->dirty);
             same("the tokens held", hyl_view_held(rec, c, block), cell->plain + cell->owner);
             same("a valid mark", hyl_view_valid(rec, c, block), cell->valid);
             if (c > 0)
@@ -182,7 +192,8 @@ static void compare(void)
         }
         /* The header says this of components above N. */
         for (; c < 16; c++)
-            same("a figure above N", hyl_view_held(rec, c, block) | hyl_view_valid(rec, c, block) | hyl_view_barring(rec, c, block), 0);
+            same("a figure above N",
+                 hyl_view_held(rec, c, block) | hyl_view_dirty(rec, c, block) | hyl_view_valid(rec, c, block) | hyl_view_barring(rec, c, block), 0);
     }
 }
 
@@ -198,9 +209,9 @@ static void write_record(void)
     printf("record %" PRIu32 " %" PRIu32 " %" PRIu32 " %" PRIu32 " %zu\n", boards, hyl_view_blocks(rec), hyl_view_tokens(rec),
            hyl_view_in_flight(rec), hyl_view_record_len(rec));
     for (i = 0; i < hyl_view_in_flight(rec); i++) {
-        printf("message %" PRIu32 " %" PRIu32 " %" PRIu32 " %" PRIu32 " %" PRIu32 " %" PRIu32, hyl_view_message_sender(rec, i),
+        printf("message %" PRIu32 " %" PRIu32 " %" PRIu32 " %" PRIu32 " %" PRIu32 " %" PRIu32 " %" PRIu32, hyl_view_message_sender(rec, i),
                hyl_view_message_target(rec, i), hyl_view_message_block(rec, i), hyl_view_message_plain(rec, i), hyl_view_message_owner(rec, i),
-               hyl_view_message_data(rec, i));
+               hyl_view_message_dirty(rec, i), hyl_view_message_data(rec, i));
         for (w = 0; w < 8; w++)
             printf(" %08" PRIx32, hyl_view_message_word(rec, i, w));
         printf("\n");
@@ -208,8 +219,8 @@ static void write_record(void)
     for (block = 0; block < hyl_view_blocks(rec); block++) {
         printf("block %" PRIu32 " %04" PRIx32 " %" PRIu32 "\n", block, hyl_view_waiting(rec, block), hyl_view_active(rec, block));
         for (c = 0; c <= boards; c++) {
-            printf("cell %" PRIu32 " %" PRIu32 " %" PRIu32 " %" PRIu32, hyl_view_plain(rec, c, block), hyl_view_owner(rec, c, block),
-                   hyl_view_held(rec, c, block), hyl_view_valid(rec, c, block));
+            printf("cell %" PRIu32 " %" PRIu32 " %" PRIu32 " %" PRIu32 " %" PRIu32, hyl_view_plain(rec, c, block), hyl_view_owner(rec, c, block),
+                   hyl_view_dirty(rec, c, block), hyl_view_held(rec, c, block), hyl_view_valid(rec, c, block));
             for (w = 0; w < 8; w++)
                 printf(" %08" PRIx32, hyl_view_word(rec, c, block, w));
             if (c > 0)
@@ -277,15 +288,31 @@ static void load(uint32_t component, uint32_t block, uint32_t word)
     }
 }
 
+/* Sends the owner of an unclaimed block without data, with some plain tokens, from the component that holds it: 12 for a dirty owner or to a board,
+ * then 13 where the mesh is full. A refusal changes no figure. */
+static void send_bare(uint32_t component, uint32_t block, uint32_t target)
+{
+    const struct cell *cell = &rack.cell[block][component];
+    uint32_t dirty = cell->dirty, refusal = dirty || target > 0 ? HYL_BARE_OWNER : rack.in_flight == 64 ? HYL_MESH_FULL : 0;
+    uint64_t result = step(HYL_SEND, component, block, 0, 0, target, any(cell->plain + 1), 1, 0, 0);
+
+    same("the refusal of a bare owner", HYL_REFUSAL(result), refusal);
+    if (refusal)
+        compare();
+    if (refusal != HYL_MESH_FULL)
+        bare_sends[dirty][target > 0]++;
+}
+
 static void claim(uint32_t kind, uint32_t component, uint32_t block)
 {
     step(kind, component, block, 0, 0, 0, 0, 0, 0, 0);
 }
 
-/* Brings a block to its active board, which stores all its words. */
+/* Brings a block to its active board, which stores all its words, or only the values that are there already, or nothing, and lowers. Where it stores
+ * nothing it sends the owner home: bare, and with data where that is refused. */
 static void gather(uint32_t block)
 {
-    uint32_t board, i;
+    uint32_t board, i, stores;
 
     claim(HYL_RAISE, 1 + any(rack.boards), block);
     board = active(block);
@@ -296,9 +323,15 @@ static void gather(uint32_t block)
     for (i = rack.in_flight; i-- > 0;)
         if (rack.mesh[i].block == block)
             step(HYL_DELIVER, 0, 0, 0, 0, 0, 0, 0, 0, i);
-    for (i = 0; i < 8; i++)
-        step(HYL_STORE, board, block, i, any_word(), 0, 0, 0, 0, 0);
+    stores = any(3);
+    for (i = 0; i < 8 && stores > 0; i++)
+        step(HYL_STORE, board, block, i, stores == 1 ? rack.cell[block][board].words[i] : any_word(), 0, 0, 0, 0, 0);
     claim(HYL_LOWER, board, block);
+    if (stores == 0 && rack.cell[block][board].owner && active(block) == 0) {
+        send_bare(board, block, 0);
+        if (rack.cell[block][board].owner)
+            step(HYL_SEND, board, block, 0, 0, 0, any(rack.cell[block][board].plain + 1), 1, 1, 0);
+    }
 }
 
 /* Sends tokens singly until the mesh is full or nothing is left to send. */
@@ -320,16 +353,24 @@ static void flood(void)
 /* A step that is likely to be accepted. */
 static void any_step(void)
 {
-    uint32_t component = any(rack.boards + 1), block = any(rack.blocks), owner, data;
+    uint32_t component = any(rack.boards + 1), block = any(rack.blocks), target = any(rack.boards + 1), owner, data;
     const struct cell *cell = &rack.cell[block][component];
 
     switch (any(8)) {
     case 0:
     case 1:
     case 2:
+        if (cell->owner && active(block) == 0 && any(2)) {
+            /* Home, more often than the dice have it. */
+            target = any(2) ? 0 : target;
+            if (target != component) {
+                send_bare(component, block, target);
+                break;
+            }
+        }
         owner = cell->owner && any(4) == 0;
         data = owner || (cell->valid && any(2));
-        step(HYL_SEND, component, block, 0, 0, any(rack.boards + 1), any(cell->plain + 1), owner, data, 0);
+        step(HYL_SEND, component, block, 0, 0, target, any(cell->plain + 1), owner, data, 0);
         break;
     case 3:
     case 4:
@@ -413,8 +454,14 @@ int main(int argc, char **argv)
                home_loads[HYL_NO_DATA]);
         return 1;
     }
+    if (!bare_sends[0][0] || !bare_sends[0][1] || !bare_sends[1][0] || !bare_sends[1][1]) {
+        printf("view: bare sends of a clean owner: %lu to home, %lu to boards; of a dirty one: %lu to home, %lu to boards\n", bare_sends[0][0],
+               bare_sends[0][1], bare_sends[1][0], bare_sends[1][1]);
+        return 1;
+    }
     if (!records)
-        printf("%lu figures of the view and of results in C, over %lu accepted steps, %lu of them loads at home, are as the rules have them\n",
-               figures, accepted, home_loads[0]);
+        printf("%lu figures of the view and of results in C, over %lu accepted steps, %lu of them loads at home and %lu bare sends, are as the rules "
+               "have them\n",
+               figures, accepted, home_loads[0], bare_sends[0][0]);
     return 0;
 }

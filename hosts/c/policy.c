@@ -82,10 +82,11 @@ static bool valid(uint32_t component, uint32_t block)
     return hyl_view_valid(rec, component, block) != 0;
 }
 
-/* A memory without components, tokens or messages: what the loads of a coherent rack give. Its counts are for the report. */
+/* A memory without components, tokens or messages: what the loads of a coherent rack give. Its counts are for the report; a bare send takes the owner
+ * home without data. */
 static struct {
     uint32_t words[32][8];
-    unsigned loads, home_loads, stores, wrong;
+    unsigned loads, home_loads, stores, sends, bare_sends, wrong;
 } memory;
 
 /* The flat memory takes an accepted step. Its numbers are on the rack, since it was accepted. */
@@ -107,6 +108,9 @@ static void take(const uint8_t *step, size_t step_len, uint64_t result)
     } else if (n[0] == HYL_STORE) {
         memory.stores++;
         memory.words[n[HYL_BLOCK]][n[HYL_WORD]] = n[HYL_VALUE];
+    } else if (n[0] == HYL_SEND) {
+        memory.sends++;
+        memory.bare_sends += n[HYL_OWNER] && !n[HYL_DATA];
     }
 }
 
@@ -197,17 +201,27 @@ static void fill(uint32_t board, uint32_t block)
     deliver_all();
 }
 
-/* Some boards claim a block; each gets it whole, stores, loads and lowers. */
-static void write_turn(uint32_t block)
+/* A board that has the owner gives back all that it holds of a block. Home has the words already where the owner is clean, so it goes bare. */
+static void give_back(uint32_t board, uint32_t block)
 {
     uint8_t step[STEP_ROOM];
-    uint32_t boards = hyl_view_boards(rec), board, word, times;
+    bool data = hyl_view_dirty(rec, board, block) != 0;
+
+    must(step, hyl_wire_write_send(step, sizeof step, 0, board, block, HOME, plain(board, block), 1, data));
+}
+
+/* Some boards claim a block; each gets it whole, stores or only reads, and lowers. Where the last one only read, it gives the block back. */
+static void claim_turn(uint32_t block)
+{
+    uint8_t step[STEP_ROOM];
+    uint32_t boards = hyl_view_boards(rec), board, only_read = 0, stores, word, times;
 
     for (times = draw(3) + 1; times > 0; times--)
         raise_claim(1 + draw(boards), block);
     while ((board = hyl_view_active(rec, block)) != 0) {
         fill(board, block);
-        for (times = draw(3) + 1; times > 0; times--) {
+        stores = draw(4);
+        for (times = stores; times > 0; times--) {
             word = draw(8);
             must(step, hyl_wire_write_store(step, sizeof step, 0, board, block, word, draw(1000000007)));
         }
@@ -216,7 +230,10 @@ static void write_turn(uint32_t block)
         if (draw(4) == 0)
             raise_claim(1 + draw(boards), block);
         must(step, hyl_wire_write_lower(step, sizeof step, 0, board, block));
+        only_read = stores == 0 ? board : 0;
     }
+    if (only_read != 0)
+        give_back(only_read, block);
 }
 
 /* The component other than the reader, with data, that has the most plain tokens; UINT32_MAX for none. */
@@ -230,8 +247,9 @@ static uint32_t source(uint32_t reader, uint32_t block)
     return best;
 }
 
-/* A board, or the tape writer at home, reads an unclaimed block. Every token here travels with the words, so who is served with the block can read
- * it. Messages that the reader need not wait for stay in flight. */
+/* A board, or the tape writer at home, reads an unclaimed block. Every token here travels with the words, or bare to home, which has them; so who is
+ * served with the block can read it. Messages that the reader need not wait for stay in flight. A board that has the owner gives the block back
+ * afterwards, unless many messages are in flight. */
 static void read_turn(uint32_t reader, uint32_t block)
 {
     uint8_t step[STEP_ROOM];
@@ -254,6 +272,8 @@ static void read_turn(uint32_t reader, uint32_t block)
     }
     for (times = draw(3) + 1; times > 0; times--)
         must(step, hyl_wire_write_load(step, sizeof step, 0, reader, block, draw(8)));
+    if (reader != HOME && hyl_view_owner(rec, reader, block) != 0 && in_flight() < 16)
+        give_back(reader, block);
 }
 
 /* Boards and the tape writer take turns; no step but a raise is ever refused. Gives the number of wrong loads. */
@@ -270,7 +290,7 @@ static unsigned take_turns(uint64_t seed, uint32_t boards, uint32_t blocks, uint
         uint32_t block = draw(blocks);
         switch (draw(3)) {
         case 0:
-            write_turn(block);
+            claim_turn(block);
             break;
         case 1:
             read_turn(1 + draw(boards), block);
@@ -282,8 +302,8 @@ static unsigned take_turns(uint64_t seed, uint32_t boards, uint32_t blocks, uint
     }
     close_rack();
     printf("turns: boards %" PRIu32 ", blocks %" PRIu32 ", tokens %" PRIu32
-           ": %u steps, %u stores, %u loads (%u at home); raises refused: %u waiting, %u barred\n",
-           boards, blocks, tokens, steps, memory.stores, memory.loads, memory.home_loads, waiting, barred);
+           ": %u steps, %u stores, %u loads (%u at home), %u sends (%u bare); raises refused: %u waiting, %u barred\n",
+           boards, blocks, tokens, steps, memory.stores, memory.loads, memory.home_loads, memory.sends, memory.bare_sends, waiting, barred);
     return memory.wrong;
 }
 
@@ -396,7 +416,7 @@ static unsigned be_foolish(uint64_t seed)
     };
     static uint8_t list[LIST_STEPS * STEP_ROOM];
     unsigned refused[21] = {0};
-    unsigned accepted = 0, loads = 0, home_loads = 0, stores = 0, wrong = 0, number;
+    unsigned accepted = 0, loads = 0, home_loads = 0, stores = 0, sends = 0, bare_sends = 0, wrong = 0, number;
     int rack, lists, i;
 
     seed_dice(seed);
@@ -438,10 +458,12 @@ static unsigned be_foolish(uint64_t seed)
         loads += memory.loads;
         home_loads += memory.home_loads;
         stores += memory.stores;
+        sends += memory.sends;
+        bare_sends += memory.bare_sends;
         close_rack();
     }
-    printf("foolish: %d racks: %u steps accepted, of them %u stores, %u loads (%u at home); refused:\n", FOOLISH_RACKS, accepted, stores, loads,
-           home_loads);
+    printf("foolish: %d racks: %u steps accepted, of them %u stores, %u loads (%u at home), %u sends (%u bare); refused:\n", FOOLISH_RACKS, accepted,
+           stores, loads, home_loads, sends, bare_sends);
     for (number = 1; number <= 20; number++)
         if (refused[number] > 0)
             printf("  %2u %-12s %u\n", number, word[number], refused[number]);

@@ -1,4 +1,5 @@
-/* The five records of document 01's listing, written and read, and what must be refused. Prints a short report; exits with 1 on any difference. */
+/* The five records of document 01's listing and a bare send, written and read, and what must be refused. Prints a short report; exits with 1 on any
+ * difference. */
 #include <stdio.h>
 #include <string.h>
 #include "hyaloneth_wire.h"
@@ -57,11 +58,15 @@ int main(void)
                                     0x03, 0x00, 0x01, 0x00, 0x04, 0x00, 0x04, 0x00, 0x00, 0x00, 0x2a};
     static const uint8_t load1[] = {0x10, 0x00, 0x0c, 0x01, 0x00, 0x01, 0x01, 0x02, 0x00, 0x01, 0x00, 0x03, 0x00, 0x01, 0x00};
     static const uint8_t load2[] = {0x10, 0x00, 0x0c, 0x01, 0x00, 0x01, 0x02, 0x02, 0x00, 0x01, 0x00, 0x03, 0x00, 0x01, 0x00};
+    /* Board 2 gives block 0 back: two plain tokens and the owner, which must be clean, and no data. */
+    static const uint8_t bare[] = {0x12, 0x00, 0x18, 0x01, 0x00, 0x01, 0x02, 0x02, 0x00, 0x01, 0x00, 0x05, 0x00, 0x01,
+                                   0x00, 0x06, 0x00, 0x01, 0x02, 0x07, 0x00, 0x01, 0x01, 0x08, 0x00, 0x01, 0x00};
     static const uint32_t sent[HYL_WIRE_PLACES] = {HYL_SEND, 0, 0, 0, 0, 1, 2, 1, 1};
     static const uint32_t delivered[HYL_WIRE_PLACES] = {HYL_DELIVER};
     static const uint32_t stored[HYL_WIRE_PLACES] = {HYL_STORE, 1, 0, 0, 0x2a};
     static const uint32_t loaded1[HYL_WIRE_PLACES] = {HYL_LOAD, 1};
     static const uint32_t loaded2[HYL_WIRE_PLACES] = {HYL_LOAD, 2};
+    static const uint32_t sent_bare[HYL_WIRE_PLACES] = {HYL_SEND, 2, 0, 0, 0, 0, 2, 1, 0};
     uint8_t out[ROOM];
     uint8_t bad[sizeof load1 + 1];
     uint32_t numbers[HYL_WIRE_PLACES];
@@ -79,6 +84,8 @@ int main(void)
     record("load", hyl_wire_write_load(out, ROOM, AT, 1, 0, 0), out, load1, sizeof load1, loaded1);
     CLEAR;
     record("load", hyl_wire_write_load(out, ROOM, AT, 2, 0, 0), out, load2, sizeof load2, loaded2);
+    CLEAR;
+    record("bare", hyl_wire_write_send(out, ROOM, AT, 2, 0, 0, 2, 1, 0), out, bare, sizeof bare, sent_bare);
 
     /* Torn: a byte too few, a byte too many, another kind byte, another tag, the high byte of a length. */
     memset(untouched, FILL, sizeof untouched);

@@ -20,10 +20,11 @@ use Rattle.spec_rack.specs.declared.Letter.the-variants.{M, O, S, I}
 use Rattle.spec_rack.specs.declared.Lettered.the-variants as Lettered
 use Rattle.spec_rack.specs.Rack.{zeros, cellAt}
 use Rattle.spec_rack.specs.Letter.{letterCheck, letterOf, lettered, letter, letterReply}
-use Rattle.spec_rack.specs.RecordLayout.{blockOffset, ownerOffset, validOffset, toCell, cellAtOffset, get, blocksIn, boardsIn, tokensIn}
+use Rattle.spec_rack.specs.RecordLayout.{blockOffset, ownerOffset, validOffset, dirtyOffset, toCell, cellAtOffset, get, blocksIn, boardsIn, tokensIn}
 use Rattle.spec_rack.specs.Soundness.{soundBytes}
 use Rattle.spec_rack.proofs.GetPut.{boards-is, tokens-is, blocks-is}
 use Rattle.record.proofs.FieldOffsets.{tokens-at}
+use Rattle.record.proofs.FieldBytes.{present-is}
 use Rattle.record_soundness.proofs.SoundnessDecision.{lanes-of}
 use Rattle.engine_letter.proofs.LetterCell.{whole}
 
@@ -85,7 +86,8 @@ module _ (s : List ℕ) (at t : ℕ) (mark : getD s (at + ownerOffset) 0 < 2) wh
 
   cell-letter : letterOf t (cellAtOffset s at) ≡ cond (eqb (p + o) t) M (cond (eqb o 1) O (cond (eqb v 1) S I))
   cell-letter =
-      ap (λ (n : ℕ). cond (eqb (p + n) t) M (cond (eqb o 1) O (cond (eqb v 1) S I))) owners-is
+      (λ i. let here = present-is (eqb o 1) (eqb (getD s (at + dirtyOffset) 0) 1) i in cond (eqb (p + toℕ here) t) M (cond here O (cond (eqb v 1) S I)))
+      ∙ ap (λ (n : ℕ). cond (eqb (p + n) t) M (cond (eqb o 1) O (cond (eqb v 1) S I))) owners-is
 
   pub letter-m : getD s at 0 + getD s (at + ownerOffset) 0 ≡ t → M ≡ letterOf t (cellAtOffset s at)
   letter-m h = rw (cell-letter, eq-eqb (p + o) t h)

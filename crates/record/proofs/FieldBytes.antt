@@ -1,20 +1,23 @@
 -- The figures of a cell and of a message, byte by byte, and the bytes that make a record of the layout's form: by the laws of pairs and of items.
-use Prim.Native.Nat.{ℕ, suc, _+_, _*_, _≤_}
+use Prim.Native.Nat.{ℕ, suc, _+_, _*_, _≤_, _<_}
 use native.Mathlib.Nat.{le-refl}
 use native.Mathlib.Omega.{arith}
 use mathlib.Core.Path.{_≡_, refl, sym, ap, _∙_}
-use mathlib.Core.Bool.{Bool, true, _&&_}
+use mathlib.Core.Bool.{Bool, true, false, _&&_}
+use mathlib.Core.Logic.{⊎-elim}
 use mathlib.Core.List.{List}
 use lib.ListN.{length, getD, take, drop}
 use lib.Seq.{getD-take, getD-drop}
 use lib.Dec.{eqb, ltb}
-use Rattle.spec_base.specs.Folds.{allBelow, all}
-use Rattle.spec_base.proofs.Tests.{and-true}
+use borrow.Author.Tests.{eq-eqb, eqb-true}
+use Rattle.spec_base.specs.Folds.{allBelow, all, implies}
+use Rattle.spec_base.proofs.Tests.{and-true, implied, implies-of, lt-or-le}
 use Rattle.spec_base.proofs.Folds.{below-of, below-same}
 use Rattle.spec_base.specs.Layout.{slice, byte, flag, big, pair, items, wellFormedItems, zeroed}
 use Rattle.spec_base.proofs.Laws.{length-readItems}
 use Rattle.spec_base.proofs.Places.{read-byte, read-pair, formed-below}
-use Rattle.spec_rack.specs.RecordLayout.{claims, messageSize, messageOffset, blockSize, blockOffset, claimsOffset, tokens, words, endpoints, messageHeader, toMessage, message, tokenLanes, block, header, rackLayout, layoutOf, blocksIn, boardsIn, claimsRoom, claimsSize, lanesSize, messagesIn, meshRoom, headerSize, targetOffset, messageBlockOffset, messagePlainOffset, messageOwnerOffset, dataOffset, messageZeroOffset, messageWordsOffset, wordsSize, laneSize}
+use Rattle.spec_rack.specs.Rack.{present}
+use Rattle.spec_rack.specs.RecordLayout.{claims, messageSize, messageOffset, blockSize, blockOffset, claimsOffset, ownerOf, toTokens, dirtyHasOwner, tokenBytes, tokens, words, endpoints, messageHeader, toMessage, message, tokenLanes, block, header, rackLayout, layoutOf, blocksIn, boardsIn, claimsRoom, claimsSize, lanesSize, messagesIn, meshRoom, headerSize, targetOffset, messageBlockOffset, messagePlainOffset, messageOwnerOffset, dataOffset, messageDirtyOffset, messageZeroOffset, messageWordsOffset, wordsSize, laneSize}
 use Rattle.spec_rack.proofs.LayoutParts.{heading-size, words-size, message-size, lanes-size, claims-size, block-size, header-size, blockTokens, blockClaims, blockWords}
 use Rattle.record.proofs.FieldOffsets.{header-formed}
 use Rattle.spec_base.proofs.Padded.{formed-room, formed-zeroed, padded-read}
@@ -39,7 +42,21 @@ words-zero s at =
     ∙ below-same (λ i. eqb (getD (slice at wordsSize s) i 0) 0) (λ i. eqb (getD s (at + i) 0) 0) wordsSize
     (λ i l. ap (λ (n : ℕ). eqb n 0) (getD-take wordsSize (drop at s) i 0 l ∙ getD-drop at s i 0))
 
--- ---- bytes and state
+-- ---- the owner's two flags
+
+pub present-is : (here dirty : Bool) → present (ownerOf here dirty) ≡ here
+present-is true true = refl
+present-is true false = refl
+present-is false d = refl
+
+-- a mark beside an owner's byte: it stands only with the owner where it is no more
+pub dirty-most : (o d : ℕ) → d < 2 → implies (eqb d 1) (eqb o 1) ≡ true → d ≤ o
+dirty-most o d c q = ⊎-elim (λ z. omega arith) (λ z. omega (arith, eqb-true o 1 (implied (eqb d 1) (eqb o 1) q (eq-eqb d 1 (omega arith))))) (lt-or-le d 1)
+
+pub dirty-only : (o d : ℕ) → o < 2 → d ≤ o → implies (eqb d 1) (eqb o 1) ≡ true
+dirty-only o d a c = implies-of (eqb d 1) (eqb o 1) (λ e. eq-eqb o 1 (omega (arith, eqb-true d 1 e)))
+
+-- ---- bytes and flags
 
 module _ (s : List ℕ) where
   flag-read : (p q : ℕ) → p ≡ q → flag .read (slice p 1 s) ≡ eqb (getD s q 0) 1
@@ -54,8 +71,22 @@ module _ (s : List ℕ) where
 -- ---- a message at a place
 
 module _ (s : List ℕ) (at : ℕ) where
+  token-bytes-read : tokenBytes .read (slice (at + messagePlainOffset) 4 s)
+      ≡ (getD s (at + messagePlainOffset) 0, (eqb (getD s (at + messageOwnerOffset) 0) 1, (eqb (getD s (at + dataOffset) 0) 1, eqb (getD s (at + messageDirtyOffset) 0) 1)))
+  token-bytes-read =
+      read-pair byte (pair flag (pair flag flag)) (at + messagePlainOffset) s
+      ∙ (λ j. (
+        read-byte (at + messagePlainOffset) s j,
+        (read-pair flag (pair flag flag) (at + 3 + 1) s
+            ∙ (λ k. (
+              flag-read s (at + 3 + 1) (at + messageOwnerOffset) (omega arith) k,
+              (read-pair flag flag (at + 3 + 1 + 1) s
+                  ∙ (λ l. (flag-read s (at + 3 + 1 + 1) (at + dataOffset) (omega arith) l, flag-read s (at + 3 + 1 + 1 + 1) (at + messageDirtyOffset) (omega arith) l))) k,
+            ))) j,
+      ))
+
   heading-read : messageHeader .read (slice at messageWordsOffset s)
-      ≡ ((getD s at 0, (getD s (at + targetOffset) 0, getD s (at + messageBlockOffset) 0)), (getD s (at + messagePlainOffset) 0, (eqb (getD s (at + messageOwnerOffset) 0) 1, eqb (getD s (at + dataOffset) 0) 1)))
+      ≡ ((getD s at 0, (getD s (at + targetOffset) 0, getD s (at + messageBlockOffset) 0)), (getD s (at + messagePlainOffset) 0, (ownerOf (eqb (getD s (at + messageOwnerOffset) 0) 1) (eqb (getD s (at + messageDirtyOffset) 0) 1), eqb (getD s (at + dataOffset) 0) 1)))
   unfolding messageHeader
   heading-read =
       padded-read 8 (pair endpoints tokens) (omega arith) at s zeroed
@@ -63,11 +94,7 @@ module _ (s : List ℕ) (at : ℕ) where
       ∙ (λ i. (
         (read-pair byte (pair byte byte) at s
             ∙ (λ j. (read-byte at s j, (read-pair byte byte (at + targetOffset) s ∙ (λ k. (read-byte (at + targetOffset) s k, byte-read s (at + 1 + 1) (at + messageBlockOffset) (omega arith) k))) j))) i,
-        (read-pair byte (pair flag flag) (at + messagePlainOffset) s
-            ∙ (λ j. (
-              read-byte (at + messagePlainOffset) s j,
-              (read-pair flag flag (at + 3 + 1) s ∙ (λ k. (flag-read s (at + 3 + 1) (at + messageOwnerOffset) (omega arith) k, flag-read s (at + 3 + 1 + 1) (at + dataOffset) (omega arith) k))) j,
-            ))) i,
+        toTokens (token-bytes-read i),
       ))
 
   pub message-read : message .read (slice at messageSize s)
@@ -78,7 +105,7 @@ module _ (s : List ℕ) (at : ℕ) where
               target = getD s (at + targetOffset) 0;
               block = getD s (at + messageBlockOffset) 0;
               plain = getD s (at + messagePlainOffset) 0;
-              owner = eqb (getD s (at + messageOwnerOffset) 0) 1;
+              owner = ownerOf (eqb (getD s (at + messageOwnerOffset) 0) 1) (eqb (getD s (at + messageDirtyOffset) 0) 1);
               «data» = eqb (getD s (at + dataOffset) 0) 1;
             };
         words = words .read (slice (at + messageWordsOffset) wordsSize s);
@@ -91,19 +118,27 @@ module _ (s : List ℕ) (at : ℕ) where
       ∙ (λ i. (messageHeader .read (slice at (heading-size i) s), words .read (slice (at + heading-size i) (words-size i) s)))
       ∙ (λ i. (heading-read i, words .read (slice (at + messageWordsOffset) wordsSize s))))
 
-  -- the owner's mark and data are state, and the two bytes behind them are 0
-  pub message-formed : message .wellFormed (slice at messageSize s) ≡ ((ltb (getD s (at + messageOwnerOffset) 0) 2 && ltb (getD s (at + dataOffset) 0) 2) && allBelow 2 (λ i. eqb (getD s (at + messageZeroOffset + i) 0) 0))
+  -- owner, data and dirty are flags, dirty only beside the owner, and the byte behind them is 0
+  pub message-formed : message .wellFormed (slice at messageSize s)
+      ≡ ((ltb (getD s (at + messageOwnerOffset) 0) 2 && (ltb (getD s (at + dataOffset) 0) 2 && ltb (getD s (at + messageDirtyOffset) 0) 2)
+      && implies (eqb (getD s (at + messageDirtyOffset) 0) 1) (eqb (getD s (at + messageOwnerOffset) 0) 1))
+      && allBelow 1 (λ i. eqb (getD s (at + messageZeroOffset + i) 0) 0))
   unfolding message messageHeader words
   message-formed =
       formed-pair messageHeader words at s
       ∙ (λ i. messageHeader .wellFormed (slice at messageWordsOffset s) && words-formed (slice (at + messageWordsOffset) wordsSize s) i)
       ∙ and-true (messageHeader .wellFormed (slice at messageWordsOffset s))
       ∙ formed-zeroed 8 (pair endpoints tokens) (omega arith) at s
-      ∙ ap (λ (t : Bool). t && allBelow 2 (λ i. eqb (getD s (at + messageZeroOffset + i) 0) 0))
+      ∙ ap (λ (t : Bool). t && allBelow 1 (λ i. eqb (getD s (at + messageZeroOffset + i) 0) 0))
       (formed-pair endpoints tokens at s
-      ∙ formed-pair byte (pair flag flag) (at + messagePlainOffset) s
-      ∙ formed-pair flag flag (at + 3 + 1) s
-      ∙ (λ i. flag-formed s (at + 3 + 1) (at + messageOwnerOffset) (omega arith) i && flag-formed s (at + 3 + 1 + 1) (at + dataOffset) (omega arith) i))
+      ∙ (λ i.
+      (formed-pair byte (pair flag (pair flag flag)) (at + messagePlainOffset) s
+      ∙ formed-pair flag (pair flag flag) (at + 3 + 1) s
+      ∙ (λ j.
+      flag-formed s (at + 3 + 1) (at + messageOwnerOffset) (omega arith) j
+      && (formed-pair flag flag (at + 3 + 1 + 1) s
+      ∙ (λ k. flag-formed s (at + 3 + 1 + 1) (at + dataOffset) (omega arith) k && flag-formed s (at + 3 + 1 + 1 + 1) (at + messageDirtyOffset) (omega arith) k)) j)) i
+      && dirtyHasOwner (token-bytes-read i)))
 
 -- ---- the record is of the layout's form where each message is, and of each block the lanes and the claims
 

@@ -5,25 +5,23 @@ use native.Mathlib.Omega.{arith}
 use mathlib.Core.Path.{_≡_, refl, sym, ap, _∙_, subst}
 use mathlib.Core.Bool.{true}
 use mathlib.Core.List.{List, [], _∷_, _++_}
-use lib.Dec.{eqb}
-use lib.ListN.{length, getD, set, take, drop, length-append}
-use lib.Seq.{length-take-le, getD-take, getD-drop, set-append-left}
-use Rattle.spec_base.specs.Folds.{toℕ, removeAt}
+use lib.ListN.{length, getD, set, take, drop, length-append, length-set}
+use lib.Seq.{length-take-le, set-append-left, set-getD}
+use Rattle.spec_base.specs.Folds.{removeAt}
 use Rattle.spec_base.specs.Layout.{Layout, slice, modifyAt, pair, items, readItems, writeItems}
 use Rattle.spec_base.proofs.Folds.{all-at}
 use Rattle.spec_base.proofs.Parts.{bytes-take, over-over, length-part, part-part}
 use Rattle.spec_base.proofs.Laws.{Stands, StandItems}
-use Rattle.spec_base.proofs.Places.{Place, within, item}
-use Rattle.spec_base.proofs.Lanes.{over-three}
+use Rattle.spec_base.proofs.Places.{Place, within, item, over-in}
 use Rattle.spec_base.proofs.Copies.{items-more, items-removed}
 use Rattle.spec_rack.specs.Claims.{Claims}
-use Rattle.spec_rack.specs.RecordLayout.{claims, blockOffset, cellWordsOffset, ownerOffset, validOffset, claimsOffset, wordsOffset, wordsSize, Tokens, words, toCell, cellTokens, message, block, header, rackLayout, layoutOf, get, put, blockSize, blocksIn, boardsIn, claimsSize, meshSize, messageCountOffset, messageOffset, messageSize, messagesIn, tokensIn, headerSize, meshRoom}
+use Rattle.spec_rack.specs.RecordLayout.{claims, blockOffset, cellWordsOffset, claimsOffset, wordsOffset, wordsSize, Tokens, fromTokens, lanesAt, setLanes, words, toCell, cellTokens, message, block, header, rackLayout, layoutOf, get, put, blockSize, blocksIn, boardsIn, claimsSize, meshSize, messageCountOffset, messageOffset, messageSize, messagesIn, tokensIn, headerSize, meshRoom}
 use Rattle.spec_rack.specs.declared.Message.{Message}
-use Rattle.spec_rack.specs.Rack.{Block, noCell, noBlock, noMessage, blockAt, cellAt, claimsAt, messageAt}
+use Rattle.spec_rack.specs.Rack.{Cell, Block, Rack, noCell, noBlock, noMessage, blockAt, cellAt, claimsAt, messageAt}
 use Rattle.spec_rack.specs.Rules.{withClaims}
 use Rattle.record.specs.Changes.{withMesh, replaceCell}
 use Rattle.spec_rack.proofs.LayoutParts.{BlockFits, words-size, claims-size, message-size, header-size, message-lawful, message-full, header-lawful}
-use Rattle.spec_rack.proofs.GetPut.{withLaneTokens, count-write, mesh-place, claims-place, block-place, words-place, withWords, tokens-spread, Formed, law, boards-is, blocks-is, tokens-is, mesh-is, stands, read-figure, write-figure, stands-figure, read-spread, write-spread, mesh-items, mesh-stands, mesh-unchanged}
+use Rattle.spec_rack.proofs.GetPut.{token-bytes-in, lanes-in, count-write, mesh-place, claims-place, block-place, words-place, withWords, tokens-spread, cell-spread, Formed, law, boards-is, blocks-is, tokens-is, mesh-is, put-get, stands, read-figure, write-figure, stands-figure, read-spread, write-spread, mesh-items, mesh-stands, mesh-unchanged}
 
 -- the header is of its form whatever it holds
 pub header-formed : (s : List ℕ) → header .wellFormed s ≡ true
@@ -37,9 +35,16 @@ words-look s b c hn hm hb hc =
     within (block-place (boardsIn s) (blocksIn s) (messagesIn s) hn hm b hb) (words-place (boardsIn s) hn c hc) .looks s
     ∙ (λ i. words .read (slice (let q : blockOffset b + (wordsOffset + wordsSize * c) ≡ cellWordsOffset b c = omega arith in q i) (words-size i) s))
 
--- a byte of a part
-part-at : (p n i : ℕ) (s : List ℕ) → i < n → getD (slice p n s) i 0 ≡ getD s (p + i) 0
-part-at p n i s l = getD-take n (drop p s) i 0 l ∙ getD-drop p s i 0
+-- a rack with the cell that it has
+same-cell : (r : Rack) (b c : ℕ) → replaceCell r b c (cellAt r b c) ≡ r
+same-cell r b c = λ i. record {
+  boards = r .boards;
+  tokens = r .tokens;
+  blocks =
+      (ap (λ (l : List Cell). set (r .blocks) b (record { cells = l; claims = blockAt r b .claims })) (set-getD (blockAt r b .cells) c noCell)
+      ∙ set-getD (r .blocks) b noBlock) i;
+  mesh = r .mesh;
+}
 
 module _ (s : List ℕ) (ok : Formed s) where
   -- ---- what a component has of a block: `at` is the place of its plain count
@@ -51,31 +56,34 @@ module _ (s : List ℕ) (ok : Formed s) where
     inside : blockOffset b + blockSize ≤ length s
     inside = omega (arith, ok .room)
 
-    owner-there : blockOffset b + (ownerOffset + c) ≡ at + ownerOffset
-    owner-there = omega arith
+    -- four bytes, one in each lane
+    lanes-there : (v : Tokens) → modifyAt (blockOffset b) blockSize (setLanes c v) s ≡ setLanes at v s
+    lanes-there v = token-bytes-in (blockOffset b) blockSize c s (omega (arith, known)) (fromTokens v) inside ∙ ap (λ (k : ℕ). setLanes k v s) (sym e)
 
-    valid-there : blockOffset b + (validOffset + c) ≡ at + validOffset
-    valid-there = omega arith
-
-    -- three bytes, one in each lane
-    three-there : (v : Tokens) → modifyAt (blockOffset b) blockSize (withLaneTokens c v) s ≡ set (set (set s at (v .0)) (at + ownerOffset) (toℕ (v .1 .0))) (at + validOffset) (toℕ (v .1 .1))
-    three-there v =
-        over-three (blockOffset b) blockSize s inside c (ownerOffset + c) (validOffset + c) (v .0) (toℕ (v .1 .0)) (toℕ (v .1 .1)) (omega (arith, known)) (omega (arith, known)) (omega (arith, known))
-        ∙ (λ i. set (set (set s (sym e i) (v .0)) (owner-there i) (toℕ (v .1 .0))) (valid-there i) (toℕ (v .1 .1)))
-
-    pub tokens-at : cellTokens (cellAt (get s) b c) ≡ (getD s at 0, (eqb (getD s (at + ownerOffset) 0) 1, eqb (getD s (at + validOffset) 0) 1))
+    pub tokens-at : cellTokens (cellAt (get s) b c) ≡ lanesAt at s
     tokens-at =
         read-spread s ok (tokens-spread (boardsIn s) (ok .boards) c hc) b hb
-        ∙ (λ i. (
-          part-at (blockOffset b) blockSize c s (omega (arith, known)) i,
-          (eqb (part-at (blockOffset b) blockSize (ownerOffset + c) s (omega (arith, known)) i) 1, eqb (part-at (blockOffset b) blockSize (validOffset + c) s (omega (arith, known)) i) 1),
-        ))
-        ∙ (λ i. (getD s (sym e i) 0, (eqb (getD s (owner-there i) 0) 1, eqb (getD s (valid-there i) 0) 1)))
+        ∙ lanes-in (blockOffset b) blockSize c s (omega (arith, known))
+        ∙ ap (λ (k : ℕ). lanesAt k s) (sym e)
 
-    -- other tokens change three bytes
-    pub tokens-put : (v : Tokens) → put (replaceCell (get s) b c (toCell (v, cellAt (get s) b c .words))) s
-        ≡ set (set (set s at (v .0)) (at + ownerOffset) (toℕ (v .1 .0))) (at + validOffset) (toℕ (v .1 .1))
-    tokens-put v = write-spread s ok (tokens-spread (boardsIn s) (ok .boards) c hc) b hb v ∙ three-there v
+    -- other tokens change four bytes
+    pub tokens-put : (v : Tokens) → put (replaceCell (get s) b c (toCell (v, cellAt (get s) b c .words))) s ≡ setLanes at v s
+    tokens-put v = write-spread s ok (tokens-spread (boardsIn s) (ok .boards) c hc) b hb v ∙ lanes-there v
+
+    -- other tokens and words change those and 32 bytes
+    pub cell-put : (v : Tokens) (ws : List ℕ) → put (replaceCell (get s) b c (toCell (v, ws))) s
+        ≡ modifyAt (blockOffset b + (wordsOffset + wordsSize * c)) wordsSize (words .write ws) (setLanes at v s)
+    cell-put v ws =
+        write-spread s ok (cell-spread (boardsIn s) (ok .boards) c hc) b hb (v, ws)
+        ∙ sym (over-in (words .write ws) (setLanes c v) (blockOffset b) blockSize (wordsOffset + wordsSize * c) wordsSize s (simp length-set) inside (omega (arith, known)))
+        ∙ ap (modifyAt (blockOffset b + (wordsOffset + wordsSize * c)) wordsSize (words .write ws)) (lanes-there v)
+
+    -- the tokens that are there change nothing
+    pub tokens-same : setLanes at (cellTokens (cellAt (get s) b c)) s ≡ s
+    tokens-same =
+        sym (tokens-put (cellTokens (cellAt (get s) b c)))
+        ∙ ap (λ (r : Rack). put r s) (same-cell (get s) b c)
+        ∙ put-get s ok
 
   -- as many cells as components
   pub cells-many : (b : ℕ) → b < blocksIn s → length (blockAt (get s) b .cells) ≡ suc (boardsIn s)

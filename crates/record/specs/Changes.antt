@@ -7,7 +7,7 @@ use Rattle.spec_rack.specs.Rack.{Cell, Rack}
 use Rattle.spec_rack.specs.Rules.{withCell}
 use Rattle.record.specs.declared.TokenState.{TokenState}
 
--- a cell's plain count, owner's mark and valid mark, as the code has them
+-- a cell's plain count, owner and valid mark, as the code has them
 pub record TokenStateOf (x : Cell) (h : TokenState) : Type 0 where
   pub plain : h .plain ≡ x .plain
   pub owner : h .owner ≡ x .owner

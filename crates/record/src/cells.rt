@@ -1,13 +1,15 @@
-// A cell: what a component has of a block. Its token state is a byte in each of three lanes; its words stand apart.
+// A cell: what a component has of a block. Its token state is a byte in each of four lanes; its words stand apart.
 ghost use mathlib.Core.Path.{_≡_};
+ghost use mathlib.Core.Bool.{true};
 ghost use Prim.Native.Nat.{_+_, _*_, _<_};
 ghost use lib.ListN.{getD};
-ghost use Rattle.spec_rack.specs.Rack.{cellAt};
+ghost use Rattle.spec_rack.specs.Rack.{present, cellAt};
 ghost use Rattle.spec_rack.specs.Rules.{stored};
 ghost use Rattle.spec_rack.specs.RecordLayout.{blockOffset, cellWordsOffset, get, put};
 ghost use Rattle.record.specs.Needs.{CellInRecord};
 ghost use Rattle.record.specs.Changes.{TokenStateOf, withTokenState, replaceCell};
 use super::TokenState;
+use super::owner;
 use super::tokens;
 use super::words;
 use base::byte_at;
@@ -15,6 +17,7 @@ use base::numbers::put_u32;
 use base::numbers::u32_at;
 use spec_rack::BLOCK_SIZE;
 use spec_rack::BLOCKS_OFFSET;
+use spec_rack::DIRTY_OFFSET;
 use spec_rack::OWNER_OFFSET;
 use spec_rack::VALID_OFFSET;
 use spec_rack::WORDS_OFFSET;
@@ -49,7 +52,10 @@ pub fn token_state(rec: &[u8], block: u8, component: u8) -> TokenState
     let at = plain_offset(block, component);
     TokenState {
         plain: byte_at(rec, at, 0),
-        owner: byte_at(rec, at, OWNER_OFFSET) == 1,
+        owner: owner::owner_of(
+            byte_at(rec, at, OWNER_OFFSET) == 1,
+            byte_at(rec, at, DIRTY_OFFSET) == 1,
+        ),
         valid: byte_at(rec, at, VALID_OFFSET) == 1,
     }
 }
@@ -72,14 +78,16 @@ pub fn word(rec: &[u8], block: u8, component: u8, index: u8) -> u32
     u32_at(rec, at + 4 * (index as usize))
 }
 
-// Writes a word of a cell.
+// Writes a word of a cell that has the owner, and marks the owner dirty.
 pub fn set_word(rec: &mut [u8], block: u8, component: u8, index: u8, value: u32)
-    requires { ⌜ CellInRecord (now rec) block component × (index < 8) ⌝ }
+    requires { ⌜ CellInRecord (now rec) block component × (index < 8) × (present (cellAt (get (now rec)) block component .owner) ≡ true) ⌝ }
     ensures { λ r. ⌜ now (rec .exit) ≡ put (stored (get (now (rec .entry))) component block index value) (now (rec .entry)) ⌝ }
 {
+    let plain = plain_offset(block, component);
     let at = words_offset(block, component);
     let place = at + 4 * (index as usize);
     put_u32(rec, place, value);
+    rec[plain + DIRTY_OFFSET] = 1;
 }
 
 // All words of a cell.

@@ -5,19 +5,22 @@ use mathlib.Core.Path.{_≡_, refl, sym, ap, _∙_}
 use mathlib.Core.Logic.{⊎-elim}
 use mathlib.Core.Bool.{Bool, true, false, not, _&&_}
 use mathlib.Core.List.{List}
-use lib.ListN.{length, getD}
+use lib.ListN.{length, getD, drop}
+use lib.Seq.{getD-take, getD-drop}
 use lib.Dec.{eqb, leb, ltb}
 use borrow.Author.Tests.{eq-eqb, ne-eqb, eqb-true, le-leb, leb-true, ltb-true, lt-ltb}
-use Rattle.spec_base.specs.Folds.{toℕ, implies, allBelow}
+use Rattle.spec_base.specs.Folds.{toℕ, all, implies, allBelow}
 use Rattle.spec_base.specs.Layout.{slice, byte, flag, lane, zipped}
 use Rattle.spec_base.proofs.Tests.{and-l, and-r, and-of, same-test, lt-or-le, implied, implies-of, eqb-one}
-use Rattle.spec_base.proofs.Folds.{below-at, below-of}
+use Rattle.spec_base.proofs.Folds.{below-at, below-of, below-same, every-below}
 use Rattle.spec_base.proofs.Forms.{formed-pair}
 use Rattle.spec_base.proofs.Lanes.{lane-of, lane-each, lane-rest}
+use Rattle.spec_rack.specs.Rack.{present}
 use Rattle.spec_rack.specs.Soundness.{soundCell}
-use Rattle.spec_rack.specs.RecordLayout.{tokenLanes, lanesSize, laneSize, ownerOffset, validOffset}
-use Rattle.record.proofs.FieldBytes.{flag-formed}
-use Rattle.record_lanes.specs.Lanes.{plainAt, ownerAt, validAt, holdsToken, soundLane, soundLanes, unusedLanesEmpty}
+use Rattle.spec_rack.specs.RecordLayout.{ownerOf, dirtyHasOwner, byteLanes, tokenLanes, lanesSize, laneSize, ownerOffset, validOffset, dirtyOffset}
+use Rattle.spec_rack.proofs.GetPut.{bytes-length, bytes-spread}
+use Rattle.record.proofs.FieldBytes.{flag-formed, present-is, dirty-most, dirty-only}
+use Rattle.record_lanes.specs.Lanes.{plainAt, ownerAt, validAt, dirtyAt, holdsToken, soundLane, soundLanes, unusedLanesEmpty}
 
 -- ---- one place of the lanes
 
@@ -31,10 +34,13 @@ some-le x =
     (lt-or-le 0 x)
 
 -- of a cell with marks of 0 or 1 and eight words
-pub lane-cell : (p o v : ℕ) (ws : List ℕ) → o < 2 → v < 2 → length ws ≡ 8
-    → soundCell (record { plain = p; owner = eqb o 1; valid = eqb v 1; words = ws }) ≡ (leb o v && leb v (toℕ (not (eqb (p + o) 0))))
-lane-cell p o v ws ho hv e =
-    same-test (eqb (length ws) 8 && implies (eqb v 1) (ltb 0 (p + toℕ (eqb o 1))) && implies (eqb o 1) (eqb v 1)) (leb o v && leb v (toℕ (not (eqb (p + o) 0))))
+pub lane-cell : (p o v d : ℕ) (ws : List ℕ) → o < 2 → v < 2 → d ≤ o → length ws ≡ 8
+    → soundCell (record { plain = p; owner = ownerOf (eqb o 1) (eqb d 1); valid = eqb v 1; words = ws })
+    ≡ (leb d o && leb o v && leb v (toℕ (not (eqb (p + o) 0))))
+lane-cell p o v d ws ho hv hd e =
+    (λ i.
+    eqb (length ws) 8 && implies (eqb v 1) (ltb 0 (p + toℕ (present-is (eqb o 1) (eqb d 1) i))) && implies (present-is (eqb o 1) (eqb d 1) i) (eqb v 1))
+    ∙ same-test (eqb (length ws) 8 && implies (eqb v 1) (ltb 0 (p + toℕ (eqb o 1))) && implies (eqb o 1) (eqb v 1)) (leb o v && leb v (toℕ (not (eqb (p + o) 0))))
     (λ q.
     let held : implies (eqb v 1) (ltb 0 (p + toℕ (eqb o 1))) ≡ true = search (and-l, and-r) in
     let beside : implies (eqb o 1) (eqb v 1) ≡ true = search (and-l, and-r) in
@@ -51,6 +57,7 @@ lane-cell p o v ws ho hv e =
     (and-of (eqb (length ws) 8) (implies (eqb v 1) (ltb 0 (p + toℕ (eqb o 1)))) (eq-eqb (length ws) 8 e)
     (implies-of (eqb v 1) (ltb 0 (p + toℕ (eqb o 1))) (λ z. lt-ltb 0 (p + toℕ (eqb o 1)) (omega (arith, eqb-one o ho, eqb-true v 1 z, some-le (p + o))))))
     (implies-of (eqb o 1) (eqb v 1) (λ z. eq-eqb v 1 (omega (arith, eqb-true o 1 z)))))
+    ∙ (λ i. sym (le-leb d o hd) i && leb o v && leb v (toℕ (not (eqb (p + o) 0))))
 
 -- ---- the lanes of a block
 
@@ -59,9 +66,11 @@ module _ (n at : ℕ) (s : List ℕ) (h : n ≤ 15) where
   pub record Lanes : Type 0 where
     pub owners : (i : ℕ) → i ≤ n → ownerAt s at i < 2
     pub valids : (i : ℕ) → i ≤ n → validAt s at i < 2
+    pub dirties : (i : ℕ) → i ≤ n → dirtyAt s at i ≤ ownerAt s at i
     pub no-plain : (i : ℕ) → n < i → i < laneSize → plainAt s at i ≡ 0
     pub no-owner : (i : ℕ) → n < i → i < laneSize → ownerAt s at i ≡ 0
     pub no-valid : (i : ℕ) → n < i → i < laneSize → validAt s at i ≡ 0
+    pub no-dirty : (i : ℕ) → n < i → i < laneSize → dirtyAt s at i ≡ 0
 
   abbrev few : suc n ≤ laneSize
   few = omega arith
@@ -75,11 +84,39 @@ module _ (n at : ℕ) (s : List ℕ) (h : n ≤ 15) where
   abbrev validForm : Bool
   validForm = lane flag (suc n) .wellFormed (slice (at + ownerOffset + laneSize) laneSize s)
 
-  form-is : tokenLanes n .wellFormed (slice at lanesSize s) ≡ (plainForm && (ownerForm && validForm))
+  abbrev dirtyForm : Bool
+  dirtyForm = lane flag (suc n) .wellFormed (slice (at + ownerOffset + laneSize + laneSize) laneSize s)
+
+  abbrev besideForm : Bool
+  besideForm = allBelow (suc n) (λ i. implies (eqb (dirtyAt s at i) 1) (eqb (ownerAt s at i) 1))
+
+  -- a byte of the lanes
+  there : (i j : ℕ) → i < lanesSize → at + i ≡ j → getD (slice at lanesSize s) i 0 ≡ getD s j 0
+  there i j l e = getD-take lanesSize (drop at s) i 0 l ∙ getD-drop at s i 0 ∙ ap (λ (k : ℕ). getD s k 0) e
+
+  -- no mark without the owner, place by place
+  beside-is : all dirtyHasOwner (byteLanes n .read (slice at lanesSize s)) ≡ besideForm
+  beside-is =
+      let t : List ℕ = slice at lanesSize s in
+      every-below (0, (false, (false, false))) dirtyHasOwner (byteLanes n .read t)
+      ∙ ap (λ (k : ℕ). allBelow k (λ i. dirtyHasOwner (getD (byteLanes n .read t) i (0, (false, (false, false)))))) (bytes-length n t)
+      ∙ below-same (λ i. dirtyHasOwner (getD (byteLanes n .read t) i (0, (false, (false, false))))) (λ i. implies (eqb (dirtyAt s at i) 1) (eqb (ownerAt s at i) 1)) (suc n)
+      (λ i l.
+      ap dirtyHasOwner (bytes-spread n h i (omega arith) .looks t)
+      ∙ (λ j.
+      implies (eqb (there (i + dirtyOffset) (at + dirtyOffset + i) (omega arith) (omega arith) j) 1) (eqb (there (i + ownerOffset) (at + ownerOffset + i) (omega arith) (omega arith) j) 1)))
+
+  lanes-are : byteLanes n .wellFormed (slice at lanesSize s) ≡ (plainForm && (ownerForm && (validForm && dirtyForm)))
+  unfolding byteLanes
+  lanes-are =
+      formed-pair (lane byte (suc n)) (zipped (lane flag (suc n)) (zipped (lane flag (suc n)) (lane flag (suc n)))) at s
+      ∙ ap (λ (t : Bool). plainForm && t)
+      (formed-pair (lane flag (suc n)) (zipped (lane flag (suc n)) (lane flag (suc n))) (at + ownerOffset) s
+      ∙ ap (λ (t : Bool). ownerForm && t) (formed-pair (lane flag (suc n)) (lane flag (suc n)) (at + ownerOffset + laneSize) s))
+
+  form-is : tokenLanes n .wellFormed (slice at lanesSize s) ≡ ((plainForm && (ownerForm && (validForm && dirtyForm))) && besideForm)
   unfolding tokenLanes
-  form-is =
-      formed-pair (lane byte (suc n)) (zipped (lane flag (suc n)) (lane flag (suc n))) at s
-      ∙ ap (λ (t : Bool). plainForm && t) (formed-pair (lane flag (suc n)) (lane flag (suc n)) (at + ownerOffset) s)
+  form-is = λ i. lanes-are i && beside-is i
 
   -- a mark of a lane at p
   mark : (p i : ℕ) → lane flag (suc n) .wellFormed (slice p laneSize s) ≡ true → i ≤ n → getD s (p + i) 0 < 2
@@ -88,45 +125,68 @@ module _ (n at : ℕ) (s : List ℕ) (h : n ≤ 15) where
   far : (i : ℕ) → at + ownerOffset + laneSize + i ≡ at + validOffset + i
   far i = omega arith
 
+  further : (i : ℕ) → at + ownerOffset + laneSize + laneSize + i ≡ at + dirtyOffset + i
+  further i = omega arith
+
   pub lanes-facts : tokenLanes n .wellFormed (slice at lanesSize s) ≡ true → Lanes
   lanes-facts e =
-      let q : (plainForm && (ownerForm && validForm)) ≡ true = sym form-is ∙ e in
-      let a : plainForm ≡ true = and-l plainForm (ownerForm && validForm) q in
-      let b : ownerForm ≡ true = and-l ownerForm validForm (and-r plainForm (ownerForm && validForm) q) in
-      let c : validForm ≡ true = and-r ownerForm validForm (and-r plainForm (ownerForm && validForm) q) in
+      let q : ((plainForm && (ownerForm && (validForm && dirtyForm))) && besideForm) ≡ true = sym form-is ∙ e in
+      let p : (plainForm && (ownerForm && (validForm && dirtyForm))) ≡ true = and-l (plainForm && (ownerForm && (validForm && dirtyForm))) besideForm q in
+      let a : plainForm ≡ true = and-l plainForm (ownerForm && (validForm && dirtyForm)) p in
+      let r : (ownerForm && (validForm && dirtyForm)) ≡ true = and-r plainForm (ownerForm && (validForm && dirtyForm)) p in
+      let b : ownerForm ≡ true = and-l ownerForm (validForm && dirtyForm) r in
+      let c : validForm ≡ true = and-l validForm dirtyForm (and-r ownerForm (validForm && dirtyForm) r) in
+      let d : dirtyForm ≡ true = and-r validForm dirtyForm (and-r ownerForm (validForm && dirtyForm) r) in
+      let f : besideForm ≡ true = and-r (plainForm && (ownerForm && (validForm && dirtyForm))) besideForm q in
       record {
         owners = λ i l. mark (at + ownerOffset) i b l;
         valids = λ i l. rw (far i) at (mark (at + ownerOffset + laneSize) i c l);
+        dirties = λ i l.
+            dirty-most (ownerAt s at i) (dirtyAt s at i) (rw (further i) at (mark (at + ownerOffset + laneSize + laneSize) i d l))
+            (below-at (λ j. implies (eqb (dirtyAt s at j) 1) (eqb (ownerAt s at j) 1)) (suc n) f i (omega arith));
         no-plain = λ i l u. lane-rest byte (suc n) few at s a i (omega arith) (omega arith);
         no-owner = λ i l u. lane-rest flag (suc n) few (at + ownerOffset) s b i (omega arith) (omega arith);
         no-valid = λ i l u. ap (λ (k : ℕ). getD s k 0) (sym (far i)) ∙ lane-rest flag (suc n) few (at + ownerOffset + laneSize) s c i (omega arith) (omega arith);
+        no-dirty = λ i l u.
+            ap (λ (k : ℕ). getD s k 0) (sym (further i)) ∙ lane-rest flag (suc n) few (at + ownerOffset + laneSize + laneSize) s d i (omega arith) (omega arith);
       }
 
   pub lanes-form : Lanes → tokenLanes n .wellFormed (slice at lanesSize s) ≡ true
   lanes-form f =
       form-is
-      ∙ and-of plainForm (ownerForm && validForm)
+      ∙ and-of (plainForm && (ownerForm && (validForm && dirtyForm))) besideForm
+      (and-of plainForm (ownerForm && (validForm && dirtyForm))
       (lane-of byte (suc n) few at s (λ i l. refl) (λ i l u. f .no-plain i (omega arith) (omega arith)))
-      (and-of ownerForm validForm
+      (and-of ownerForm (validForm && dirtyForm)
       (lane-of flag (suc n) few (at + ownerOffset) s
       (λ i l. flag-formed s (at + ownerOffset + 1 * i) (at + ownerOffset + i) (omega arith) ∙ lt-ltb (getD s (at + ownerOffset + i) 0) 2 (f .owners i (omega arith)))
       (λ i l u. f .no-owner i (omega arith) (omega arith)))
+      (and-of validForm dirtyForm
       (lane-of flag (suc n) few (at + ownerOffset + laneSize) s
       (λ i l. flag-formed s (at + ownerOffset + laneSize + 1 * i) (at + validOffset + i) (omega arith) ∙ lt-ltb (getD s (at + validOffset + i) 0) 2 (f .valids i (omega arith)))
-      (λ i l u. ap (λ (k : ℕ). getD s k 0) (far i) ∙ f .no-valid i (omega arith) (omega arith))))
+      (λ i l u. ap (λ (k : ℕ). getD s k 0) (far i) ∙ f .no-valid i (omega arith) (omega arith)))
+      (lane-of flag (suc n) few (at + ownerOffset + laneSize + laneSize) s
+      (λ i l.
+      flag-formed s (at + ownerOffset + laneSize + laneSize + 1 * i) (at + dirtyOffset + i) (omega arith)
+      ∙ lt-ltb (getD s (at + dirtyOffset + i) 0) 2 (omega (arith, f .dirties i (omega arith), f .owners i (omega arith))))
+      (λ i l u. ap (λ (k : ℕ). getD s k 0) (further i) ∙ f .no-dirty i (omega arith) (omega arith))))))
+      (below-of (λ i. implies (eqb (dirtyAt s at i) 1) (eqb (ownerAt s at i) 1)) (suc n)
+      (λ i l. dirty-only (ownerAt s at i) (dirtyAt s at i) (f .owners i (omega arith)) (f .dirties i (omega arith))))
 
   -- ---- all places that are fine are as the layout has them
 
   module _ (a : soundLanes s at ≡ true) (b : unusedLanesEmpty n s at ≡ true) where
+    fine-dirty : (i : ℕ) → i < laneSize → dirtyAt s at i ≤ ownerAt s at i
+    unfolding soundLanes
+    fine-dirty i l = let q = below-at (soundLane s at) laneSize a i l in leb-true (dirtyAt s at i) (ownerAt s at i) (search (and-l, and-r))
+
     fine-order : (i : ℕ) → i < laneSize → ownerAt s at i ≤ validAt s at i
     unfolding soundLanes
-    fine-order i l =
-        leb-true (ownerAt s at i) (validAt s at i) (and-l (leb (ownerAt s at i) (validAt s at i)) (leb (validAt s at i) (toℕ (holdsToken s at i))) (below-at (soundLane s at) laneSize a i l))
+    fine-order i l = let q = below-at (soundLane s at) laneSize a i l in leb-true (ownerAt s at i) (validAt s at i) (search (and-l, and-r))
 
     fine-held : (i : ℕ) → i < laneSize → validAt s at i ≤ toℕ (holdsToken s at i)
     unfolding soundLanes
-    fine-held i l =
-        leb-true (validAt s at i) (toℕ (holdsToken s at i)) (and-r (leb (ownerAt s at i) (validAt s at i)) (leb (validAt s at i) (toℕ (holdsToken s at i))) (below-at (soundLane s at) laneSize a i l))
+    fine-held i l = let q = below-at (soundLane s at) laneSize a i l in leb-true (validAt s at i) (toℕ (holdsToken s at i)) (search (and-l, and-r))
 
     fine-mark : (i : ℕ) → i < laneSize → validAt s at i < 2
     fine-mark i l = omega (arith, fine-held i l, one-most (holdsToken s at i))
@@ -151,9 +211,11 @@ module _ (n at : ℕ) (s : List ℕ) (h : n ≤ 15) where
         record {
           owners = λ i l. omega (arith, fine-order i (omega arith), fine-mark i (omega arith));
           valids = λ i l. fine-mark i (omega arith);
+          dirties = λ i l. fine-dirty i (omega arith);
           no-plain = λ i l u. omega (arith, fine-empty i l u);
           no-owner = λ i l u. omega (arith, fine-empty i l u);
           no-valid = λ i l u. omega (arith, fine-empty i l u, fine-held i u, some-le (plainAt s at i + ownerAt s at i));
+          no-dirty = λ i l u. omega (arith, fine-empty i l u, fine-dirty i u);
         }
 
   -- of lanes that are as the layout has them, the first n + 1 places decide
@@ -172,6 +234,7 @@ module _ (n at : ℕ) (s : List ℕ) (h : n ≤ 15) where
 
       above : (i : ℕ) → n < i → i < laneSize → soundLane s at i ≡ true
       above i l u =
-          and-of (leb (ownerAt s at i) (validAt s at i)) (leb (validAt s at i) (toℕ (holdsToken s at i)))
-          (le-leb (ownerAt s at i) (validAt s at i) (omega (arith, f .no-owner i l u)))
+          and-of (leb (dirtyAt s at i) (ownerAt s at i) && leb (ownerAt s at i) (validAt s at i)) (leb (validAt s at i) (toℕ (holdsToken s at i)))
+          (and-of (leb (dirtyAt s at i) (ownerAt s at i)) (leb (ownerAt s at i) (validAt s at i)) (le-leb (dirtyAt s at i) (ownerAt s at i) (omega (arith, f .no-dirty i l u)))
+          (le-leb (ownerAt s at i) (validAt s at i) (omega (arith, f .no-owner i l u))))
           (le-leb (validAt s at i) (toℕ (holdsToken s at i)) (omega (arith, f .no-valid i l u)))

@@ -7,10 +7,10 @@ use mathlib.Core.Logic.{⊎-elim}
 use mathlib.Core.Bool.{Bool, true, false, not, _&&_, _||_}
 use mathlib.Core.List.{List}
 use lib.Bits.{bitOr, and-le-l, and-le-r, or-add-and, or-lt}
-use lib.Dec.{eqb, ltb}
+use lib.Dec.{eqb, leb, ltb}
 use lib.ListN.{getD}
 use lib.Pow.{pow-pos, pow-add}
-use borrow.Author.Tests.{eq-eqb, eqb-true, ltb-true, lt-ltb, not-true, not-false}
+use borrow.Author.Tests.{eq-eqb, eqb-true, le-leb, leb-true, ltb-true, lt-ltb, not-true, not-false}
 use Rattle.spec_base.specs.Folds.{allBelow, implies}
 use Rattle.spec_base.proofs.Tests.{and-l, and-r, and-of, not-of-true, not-of-false, same-or-not, same-test, lt-or-le, implied, implies-of}
 use Rattle.spec_base.proofs.Folds.{below-at, below-of}
@@ -33,6 +33,29 @@ both-zero p o =
 -- one of two numbers is not 0
 pub either-some : (p o : ℕ) → (not (eqb p 0) || not (eqb o 0)) ≡ not (eqb (p + o) 0)
 either-some p o = none-of (eqb p 0) (eqb o 0) ∙ ap (λ (t : Bool). not t) (both-zero p o)
+
+or-most : (a b : ℕ) → (a ≤ bitOr a b) × (b ≤ bitOr a b)
+or-most a b = (omega (arith, or-add-and a b, and-le-r a b), omega (arith, or-add-and a b, and-le-l a b))
+
+-- a number is no more than another where its excess is 0, and excesses joined by bits are 0 where each is
+excess-zero : (a b : ℕ) → a - b ≡ 0 → leb a b ≡ true
+excess-zero a b e = le-leb a b (omega (arith, e))
+
+pub no-excess : (d o v h : ℕ) → eqb (bitOr (bitOr (d - o) (o - v)) (v - h)) 0 ≡ (leb d o && leb o v && leb v h)
+no-excess d o v h =
+    same-test (eqb (bitOr (bitOr (d - o) (o - v)) (v - h)) 0) (leb d o && leb o v && leb v h)
+    (λ q.
+    let z : bitOr (bitOr (d - o) (o - v)) (v - h) ≡ 0 = eqb-true (bitOr (bitOr (d - o) (o - v)) (v - h)) 0 q in
+    let outer = or-most (bitOr (d - o) (o - v)) (v - h) in
+    let inner = or-most (d - o) (o - v) in
+    and-of (leb d o && leb o v) (leb v h)
+    (and-of (leb d o) (leb o v) (excess-zero d o (omega (arith, z, outer .0, inner .0))) (excess-zero o v (omega (arith, z, outer .0, inner .1))))
+    (excess-zero v h (omega (arith, z, outer .1))))
+    (λ q.
+    let a : d - o ≡ 0 = omega (arith, leb-true d o (search (and-l, and-r))) in
+    let b : o - v ≡ 0 = omega (arith, leb-true o v (search (and-l, and-r))) in
+    let c : v - h ≡ 0 = omega (arith, leb-true v h (search (and-l, and-r))) in
+    ap (λ (x : ℕ). eqb x 0) (λ i. bitOr (bitOr (a i) (b i)) (c i)))
 
 -- ---- bytes as one number, the low byte first: it is below 256 ^ k where the bytes from the k-th on are 0
 
@@ -68,9 +91,6 @@ pub low-eight : (s : List ℕ) (at : ℕ) → lowFirst (λ i. getD s (at + i) 0)
 unfolding lowFirst
 low-eight s at =
     omega (arith, same-at s (at + 4 + 0) (at + 4) (omega arith), same-at s (at + 4 + 1) (at + 5) (omega arith), same-at s (at + 4 + 2) (at + 6) (omega arith), same-at s (at + 4 + 3) (at + 7) (omega arith))
-
-or-most : (a b : ℕ) → (a ≤ bitOr a b) × (b ≤ bitOr a b)
-or-most a b = (omega (arith, or-add-and a b, and-le-r a b), omega (arith, or-add-and a b, and-le-l a b))
 
 -- ---- what was seen at eight places
 

@@ -1,7 +1,7 @@
 // What a block's components have, decided over the sixteen places of its lanes: loops of constant length in which every place does the same.
 ghost use mathlib.Core.Path.{_≡_};
 ghost use mathlib.Core.Bool.{not, _&&_};
-ghost use Prim.Native.Nat.{ℕ, _+_, _*_, _≤_, _<_};
+ghost use Prim.Native.Nat.{ℕ, _+_, _*_, _-_, _≤_, _<_};
 ghost use lib.Bits.{bitOr};
 ghost use lib.Dec.{eqb, leb};
 ghost use lib.ListN.{length, getD};
@@ -13,6 +13,7 @@ use base::either;
 use base::wide;
 use spec_rack::BLOCK_SIZE;
 use spec_rack::BLOCKS_OFFSET;
+use spec_rack::DIRTY_OFFSET;
 use spec_rack::LANE_SIZE;
 use spec_rack::OWNER_OFFSET;
 use spec_rack::VALID_OFFSET;
@@ -31,12 +32,22 @@ pub fn sum16(s: &[u8], at: usize) -> u32
     sum
 }
 
-// Whether an owner's mark and a valid mark are 0 or 1, the owner valid, and valid only beside a token.
-fn lane_sound(plain: u8, owner: u8, valid: u8) -> bool
-    ensures { λ r. ⌜ r ≡ (leb owner valid && leb valid (toℕ (not (eqb (plain + owner) 0)))) ⌝ }
+// By how much a byte is above another, 0 where it is not: the machine has this as one instruction for sixteen bytes.
+fn excess(a: u8, b: u8) -> u8
+    ensures { λ r. ⌜ r ≡ a - b ⌝ }
+{
+    if a <= b {
+        return 0;
+    }
+    a - b
+}
+
+// Whether owner, valid and dirty are 0 or 1, dirty only beside the owner, the owner valid, and valid only beside a token.
+fn lane_sound(plain: u8, owner: u8, valid: u8, dirty: u8) -> bool
+    ensures { λ r. ⌜ r ≡ (leb dirty owner && leb owner valid && leb valid (toℕ (not (eqb (plain + owner) 0)))) ⌝ }
 {
     let held = either(plain != 0, owner != 0) as u8;
-    both(owner <= valid, valid <= held)
+    excess(dirty, owner) | excess(owner, valid) | excess(valid, held) == 0
 }
 
 // Whether the marks at all sixteen places are sound.
@@ -51,6 +62,7 @@ fn lanes_sound(s: &[u8], at: usize) -> bool
             s[at + component],
             s[at + OWNER_OFFSET + component],
             s[at + VALID_OFFSET + component],
+            s[at + DIRTY_OFFSET + component],
         );
         fine = both(mark, fine);
         component += 1;

@@ -16,13 +16,14 @@ ghost use Rattle.record.specs.Changes.{withWords, replaceCell, withMesh};
 use base::byte_at;
 use record::TokenState;
 use record::cells;
+use record::owner;
 use record::tokens;
 use record::words;
 use spec_rack::DATA_OFFSET;
 use spec_rack::HEADER_SIZE;
 use spec_rack::MESSAGE_BLOCK_OFFSET;
 use spec_rack::MESSAGE_COUNT_OFFSET;
-use spec_rack::MESSAGE_LAST_ZERO_OFFSET;
+use spec_rack::MESSAGE_DIRTY_OFFSET;
 use spec_rack::MESSAGE_OWNER_OFFSET;
 use spec_rack::MESSAGE_PLAIN_OFFSET;
 use spec_rack::MESSAGE_SIZE;
@@ -52,7 +53,10 @@ pub fn header_at(rec: &[u8], position: u8) -> MessageHeader
         target: byte_at(rec, at, TARGET_OFFSET),
         block: byte_at(rec, at, MESSAGE_BLOCK_OFFSET),
         plain: byte_at(rec, at, MESSAGE_PLAIN_OFFSET),
-        owner: byte_at(rec, at, MESSAGE_OWNER_OFFSET) == 1,
+        owner: owner::owner_of(
+            byte_at(rec, at, MESSAGE_OWNER_OFFSET) == 1,
+            byte_at(rec, at, MESSAGE_DIRTY_OFFSET) == 1,
+        ),
         data: byte_at(rec, at, DATA_OFFSET) == 1,
     }
 }
@@ -75,6 +79,7 @@ fn put_message(s: &mut [u8], at: usize, m: Message)
     ensures { λ r. ⌜ now (s .exit) ≡ modifyAt at messageSize (message .write m) (now (s .entry)) ⌝ }
 {
     let header = m.header;
+    let token = header.owner;
     let values = m.words;
     s[at] = header.sender;
     s[at + TARGET_OFFSET] = header.target;
@@ -84,12 +89,11 @@ fn put_message(s: &mut [u8], at: usize, m: Message)
         at + MESSAGE_PLAIN_OFFSET,
         TokenState {
             plain: header.plain,
-            owner: header.owner,
+            owner: token,
             valid: header.data,
         },
     );
     s[at + MESSAGE_ZERO_OFFSET] = 0;
-    s[at + MESSAGE_LAST_ZERO_OFFSET] = 0;
     words::put_words(s, at + MESSAGE_WORDS_OFFSET, values);
 }
 

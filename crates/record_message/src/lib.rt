@@ -3,12 +3,14 @@ ghost use mathlib.Core.Path.{_≡_};
 ghost use Prim.Native.Nat.{_+_, _≤_};
 ghost use lib.ListN.{length};
 ghost use Rattle.spec_rack.specs.RecordLayout.{messageSize};
-ghost use Rattle.record_message.specs.Messages.{tokenSumAt, endpointsKnown, soundFlags, soundMessageAt};
+ghost use Rattle.record_message.specs.Messages.{tokenSumAt, endpointsKnown, soundBareOwner, soundFlags, soundMessageAt};
 use base::all_zero;
+use base::both;
 use base::byte_at;
 use base::wide;
 use spec_rack::DATA_OFFSET;
 use spec_rack::MESSAGE_BLOCK_OFFSET;
+use spec_rack::MESSAGE_DIRTY_OFFSET;
 use spec_rack::MESSAGE_OWNER_OFFSET;
 use spec_rack::MESSAGE_PLAIN_OFFSET;
 use spec_rack::MESSAGE_WORDS_OFFSET;
@@ -44,7 +46,14 @@ fn endpoints_known(rec: &[u8], at: usize, boards: u8, blocks: u8) -> bool
     byte_at(rec, at, MESSAGE_BLOCK_OFFSET) < blocks
 }
 
-// Whether a message's owner stands only beside data, it carries a token, and the two bytes behind the mark of data are 0.
+// Whether an owner without data may be in flight: one owner, clean, on its way home.
+fn bare_owner_sound(owner: u8, dirty: u8, target: u8) -> bool
+    ensures { λ r. ⌜ r ≡ soundBareOwner owner dirty target ⌝ }
+{
+    both(owner == 1, wide(dirty) + wide(target) == 0)
+}
+
+// Whether a message's owner has data or goes home clean, it carries a token, its mark is dirty only beside an owner, and the last byte of its header is 0.
 fn sound_flags(rec: &[u8], at: usize) -> bool
     requires { ⌜ at + 8 ≤ length (now rec) ⌝ }
     ensures { λ r. ⌜ r ≡ soundFlags (now (rec .entry)) at ⌝ }
@@ -52,13 +61,18 @@ fn sound_flags(rec: &[u8], at: usize) -> bool
     let plain = byte_at(rec, at, MESSAGE_PLAIN_OFFSET);
     let owner = byte_at(rec, at, MESSAGE_OWNER_OFFSET);
     let data = byte_at(rec, at, DATA_OFFSET);
+    let dirty = byte_at(rec, at, MESSAGE_DIRTY_OFFSET);
+    let zero = byte_at(rec, at, MESSAGE_ZERO_OFFSET);
     if data < owner {
-        return false;
+        if !bare_owner_sound(owner, dirty, byte_at(rec, at, TARGET_OFFSET)) {
+            return false;
+        }
     }
     if wide(plain) + wide(owner) == 0 {
         return false;
     }
-    all_zero(rec, at + MESSAGE_ZERO_OFFSET, 2)
+    // Both bytes as one number, so that one comparison decides them.
+    wide(dirty) + wide(zero) * 256 <= wide(owner)
 }
 
 // Whether the message at `at` is well-formed and sound.

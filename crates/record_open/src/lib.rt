@@ -36,7 +36,7 @@ fn zero_fill(s: &mut [u8], at: usize, count: usize)
     }
 }
 
-// Writes the fresh block at `at`: home holds all tokens, valid.
+// Writes the fresh block at `at`: home holds all tokens, valid; the owner is clean, so its mark stays 0.
 fn open_block(rec: &mut [u8], at: usize, boards: u32, tokens: u32)
     requires { ⌜ (boards < 16) × (1 ≤ tokens) × (tokens ≤ 64) × (at + blockSize ≤ length (now rec)) ⌝ }
     ensures { λ r. ⌜ now (rec .exit) ≡ modifyAt at blockSize (block boards .write (freshBlock boards tokens)) (now (rec .entry)) ⌝ }

@@ -14,14 +14,15 @@ use Rattle.spec_base.specs.Layout.{slice}
 use Rattle.spec_base.proofs.Tests.{and-l, and-r, and-of, and-left, and-right, and-known, same-test, one-lt, eqb-one, cond-of}
 use Rattle.spec_base.proofs.Folds.{below-of, below-at, below-same, at-set, every-below, sum-next, sum-most, sum-below, sum-short, sum-scaled}
 use Rattle.spec_rack.specs.Claims.{soundClaims}
-use Rattle.spec_rack.specs.RecordLayout.{claims, claimsAtOffset as claimsBytes, messageOffset, blockOffset, ownerOffset, validOffset, claimsOffset, wordsOffset, wordsSize, Tokens, words, toCell, message, tokenLanes, block, recordLength, layoutOf, get, blockSize, blocksIn, boardsIn, claimsSize, lanesSize, messageSize, messagesIn, tokensIn, targetOffset, messageBlockOffset, messagePlainOffset, messageOwnerOffset, dataOffset, messageWordsOffset, laneSize}
+use Rattle.spec_rack.specs.RecordLayout.{claims, claimsAtOffset as claimsBytes, messageOffset, blockOffset, ownerOffset, validOffset, dirtyOffset, claimsOffset, wordsOffset, wordsSize, Tokens, ownerOf, toTokens, words, toCell, message, tokenLanes, block, recordLength, layoutOf, get, blockSize, blocksIn, boardsIn, claimsSize, lanesSize, messageSize, messagesIn, tokensIn, targetOffset, messageBlockOffset, messagePlainOffset, messageOwnerOffset, dataOffset, messageDirtyOffset, messageWordsOffset, laneSize}
+use Rattle.spec_rack.specs.declared.Owner.{Owner}
 use Rattle.spec_rack.specs.declared.Message.{Message}
-use Rattle.spec_rack.specs.Rack.{Cell, meshLimit, owners, held, carried, noCell, noMessage, blockAt, cellAt, messageAt, tokensOf, ownersOf}
+use Rattle.spec_rack.specs.Rack.{Cell, meshLimit, present, owners, held, carried, noCell, noMessage, blockAt, cellAt, messageAt, tokensOf, ownersOf}
 use Rattle.spec_rack.specs.Soundness.{sizes, soundCell, soundMessage, soundBlock, sound, wellFormedRecord, soundBytes}
 use Rattle.spec_rack.proofs.GetPut.{Formed, formed-of, well-formed, boards-is, blocks-is, tokens-is, mesh-is}
 use Rattle.record.proofs.FieldOffsets.{cells-many, tokens-at, words-at, claims-at, message-at, message-stands}
-use Rattle.record.proofs.FieldBytes.{words-eight, message-read, message-formed, block-formed, record-formed}
-use Rattle.record_lanes.specs.Lanes.{plainAt, ownerAt, validAt, soundLane, soundLanes, unusedLanesEmpty, laneSum}
+use Rattle.record.proofs.FieldBytes.{words-eight, present-is, message-read, message-formed, block-formed, record-formed}
+use Rattle.record_lanes.specs.Lanes.{plainAt, ownerAt, validAt, dirtyAt, soundLane, soundLanes, unusedLanesEmpty, laneSum}
 use Rattle.record_message.specs.Messages.{tokenSumAt, soundMessageAt}
 use Rattle.record_soundness.specs.Decision.{carriedSumAt, sumInFlight, tokensTotal, soundClaimsAt, soundBlockAt}
 use Rattle.record_lanes.proofs.LaneLaws.{lane-cell, Lanes, lanes-facts, lanes-form, lanes-fine, lanes-same}
@@ -93,8 +94,9 @@ halves v w a x b y t p q l h =
 -- ---- a record of the layout's form
 
 -- a plain count and an owner's mark by their weight
-marked-weight : (p o v : ℕ) → (ltb o 2 && ltb v 2) ≡ true → p + o * 65536 ≡ (p + toℕ (eqb o 1)) + 65535 * toℕ (eqb o 1)
-marked-weight p o v q = omega (arith, eqb-one o (ltb-true o 2 (and-l (ltb o 2) (ltb v 2) q)))
+marked-weight : (p o d : ℕ) → o < 2
+    → p + o * 65536 ≡ (p + owners (ownerOf (eqb o 1) (eqb d 1))) + 65535 * owners (ownerOf (eqb o 1) (eqb d 1))
+marked-weight p o d h = rw present-is (omega (arith, eqb-one o h))
 
 chosen-weight : (t : Bool) (w a x : ℕ) → w ≡ a + 65535 * x → cond t w 0 ≡ cond t a 0 + 65535 * cond t x 0
 chosen-weight true w a x e = e
@@ -137,25 +139,33 @@ module _ (s : List ℕ) (ok : Formed s) where
                 target = getD s (at + targetOffset) 0;
                 block = getD s (at + messageBlockOffset) 0;
                 plain = getD s (at + messagePlainOffset) 0;
-                owner = eqb (getD s (at + messageOwnerOffset) 0) 1;
+                owner = ownerOf (eqb (getD s (at + messageOwnerOffset) 0) 1) (eqb (getD s (at + messageDirtyOffset) 0) 1);
                 «data» = eqb (getD s (at + dataOffset) 0) 1;
               };
           words = words .read (slice (at + messageWordsOffset) wordsSize s);
         }
     message-bytes = message-at s ok i l ∙ message-read s at
 
+    abbrev owner-bytes : Owner
+    owner-bytes = ownerOf (eqb (getD s (at + messageOwnerOffset) 0) 1) (eqb (getD s (at + messageDirtyOffset) 0) 1)
+
+    owner-low : getD s (at + messageOwnerOffset) 0 < 2
+    owner-low =
+        let q = sym (message-formed s at) ∙ message-stands s ok i l .wellFormed in
+        ltb-true (getD s (at + messageOwnerOffset) 0) 2 (search (and-l, and-r, q))
+
     message-weight : carriedSumAt s k at ≡ cond (eqb (messageAt (get s) i .header .block) k) (carried (messageAt (get s) i)) 0 + 65535 * cond (eqb (messageAt (get s) i .header .block) k) (owners (messageAt (get s) i .header .owner)) 0
     message-weight =
         subst (λ (x : Message). carriedSumAt s k at ≡ cond (eqb (x .header .block) k) (carried x) 0 + 65535 * cond (eqb (x .header .block) k) (owners (x .header .owner)) 0) (sym message-bytes)
-        (chosen-weight (eqb (getD s (at + messageBlockOffset) 0) k) (tokenSumAt s (at + messagePlainOffset)) (getD s (at + messagePlainOffset) 0 + toℕ (eqb (getD s (at + messageOwnerOffset) 0) 1)) (toℕ (eqb (getD s (at + messageOwnerOffset) 0) 1))
+        (chosen-weight (eqb (getD s (at + messageBlockOffset) 0) k) (tokenSumAt s (at + messagePlainOffset)) (getD s (at + messagePlainOffset) 0 + owners owner-bytes) (owners owner-bytes)
         (ap (λ (j : ℕ). getD s (at + messagePlainOffset) 0 + getD s j 0 * 65536) (let e : at + 3 + 1 ≡ at + 4 = omega arith in e)
-        ∙ marked-weight (getD s (at + messagePlainOffset) 0) (getD s (at + messageOwnerOffset) 0) (getD s (at + dataOffset) 0) (and-l _ _ (sym (message-formed s at) ∙ message-stands s ok i l .wellFormed))))
+        ∙ marked-weight (getD s (at + messagePlainOffset) 0) (getD s (at + messageOwnerOffset) 0) (getD s (at + messageDirtyOffset) 0) owner-low))
 
     message-most : cond (eqb (messageAt (get s) i .header .block) k) (carried (messageAt (get s) i)) 0 ≤ 256
     message-most =
         subst (λ (x : Message). cond (eqb (x .header .block) k) (carried x) 0 ≤ 256) (sym message-bytes)
-        (cond-of (λ w. w ≤ 256) (eqb (getD s (at + messageBlockOffset) 0) k) (getD s (at + messagePlainOffset) 0 + toℕ (eqb (getD s (at + messageOwnerOffset) 0) 1)) 0
-        (omega (arith, ok .bytes (at + messagePlainOffset), one-lt (eqb (getD s (at + messageOwnerOffset) 0) 1))) (omega arith))
+        (cond-of (λ w. w ≤ 256) (eqb (getD s (at + messageBlockOffset) 0) k) (getD s (at + messagePlainOffset) 0 + owners owner-bytes) 0
+        (omega (arith, ok .bytes (at + messagePlainOffset), one-lt (present owner-bytes))) (omega arith))
 
   -- ---- cells
 
@@ -179,26 +189,44 @@ module _ (s : List ℕ) (ok : Formed s) where
       known-cell : c ≤ n
       known-cell = omega arith
 
+      abbrev owner-of-cell : Owner
+      owner-of-cell = ownerOf (eqb (ownerAt s home c) 1) (eqb (dirtyAt s home c) 1)
+
       cell-bytes : cellAt (get s) k c
-          ≡ record { plain = plainAt s home c; owner = eqb (ownerAt s home c) 1; valid = eqb (validAt s home c) 1; words = cellAt (get s) k c .words }
+          ≡ record {
+            plain = plainAt s home c;
+            owner = ownerOf (eqb (ownerAt s home c) 1) (eqb (dirtyAt s home c) 1);
+            valid = eqb (validAt s home c) 1;
+            words = cellAt (get s) k c .words;
+          }
       cell-bytes =
           ap (λ (v : Tokens). toCell (v, cellAt (get s) k c .words))
           (tokens-at s ok k c hk known-cell (home + c) refl
-          ∙ (λ i. (getD s (home + c) 0, (eqb (getD s (let e : home + c + ownerOffset ≡ home + ownerOffset + c = omega arith in e i) 0) 1, eqb (getD s (let e : home + c + validOffset ≡ home + validOffset + c = omega arith in e i) 0) 1))))
+          ∙ (λ i. toTokens (
+            getD s (home + c) 0,
+            (
+              eqb (getD s (let e : home + c + ownerOffset ≡ home + ownerOffset + c = omega arith in e i) 0) 1,
+              (
+                eqb (getD s (let e : home + c + validOffset ≡ home + validOffset + c = omega arith in e i) 0) 1,
+                eqb (getD s (let e : home + c + dirtyOffset ≡ home + dirtyOffset + c = omega arith in e i) 0) 1,
+              ),
+            ),
+          )))
 
       cell-weight : plainAt s home c + ownerAt s home c * 65536 ≡ held (cellAt (get s) k c) + 65535 * owners (cellAt (get s) k c .owner)
       cell-weight =
           subst (λ (x : Cell). plainAt s home c + ownerAt s home c * 65536 ≡ held x + 65535 * owners (x .owner)) (sym cell-bytes)
-          (omega (arith, eqb-one (ownerAt s home c) (lanes .owners c known-cell)))
+          (marked-weight (plainAt s home c) (ownerAt s home c) (dirtyAt s home c) (lanes .owners c known-cell))
 
       cell-most : held (cellAt (get s) k c) ≤ 256
       cell-most =
-          subst (λ (x : Cell). held x ≤ 256) (sym cell-bytes) (omega (arith, ok .bytes (home + c), one-lt (eqb (ownerAt s home c) 1)))
+          subst (λ (x : Cell). held x ≤ 256) (sym cell-bytes) (omega (arith, ok .bytes (home + c), one-lt (present owner-of-cell)))
 
       cell-same : soundCell (cellAt (get s) k c) ≡ soundLane s home c
       cell-same =
           ap soundCell cell-bytes
-          ∙ lane-cell (plainAt s home c) (ownerAt s home c) (validAt s home c) (cellAt (get s) k c .words) (lanes .owners c known-cell) (lanes .valids c known-cell)
+          ∙ lane-cell (plainAt s home c) (ownerAt s home c) (validAt s home c) (dirtyAt s home c) (cellAt (get s) k c .words) (lanes .owners c known-cell)
+          (lanes .valids c known-cell) (lanes .dirties c known-cell)
           (ap length (words-at s ok k c hk known-cell (home + wordsOffset + wordsSize * c) refl) ∙ words-eight (slice (home + wordsOffset + wordsSize * c) 32 s))
 
     cells-same : all soundCell (blockAt (get s) k .cells) ≡ (soundLanes s home && unusedLanesEmpty n s home)

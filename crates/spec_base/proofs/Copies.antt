@@ -3,12 +3,13 @@ use Prim.Native.Nat.{ℕ, zero, suc, _+_, _*_, _-_, _^_, _≤_, _<_}
 use native.Mathlib.Nat.{sub-zero, one-mul, suc-sub-suc, zero-add, zero-mul, suc-mul, add-comm, not-suc-le-zero, le-of-suc-le-suc, le-of-eq}
 use native.Mathlib.Omega.{arith}
 use mathlib.Core.Path.{_≡_, refl, sym, ap, _∙_}
+use mathlib.Core.Bool.{Bool}
 use mathlib.Core.List.{List, [], _∷_, _++_, append-assoc, append-nil}
 use lib.ListN.{length, set, take, drop, length-drop, drop-of-length-le}
 use lib.Seq.{drop-drop, take-add, length-take-le}
 use Rattle.spec_base.specs.Folds.{toℕ, All, removeAt}
 use Rattle.spec_base.specs.Number.{digits}
-use Rattle.spec_base.specs.Layout.{Layout, slice, modifyAt, overwrite, byte, flag, big, pair, iso, items, readItems, writeItems}
+use Rattle.spec_base.specs.Layout.{Layout, slice, modifyAt, overwrite, byte, flag, big, pair, iso, isoWhere, items, readItems, writeItems}
 use Rattle.spec_base.proofs.Parts.{over-behind, length-part, bytes-take, cover-room}
 use Rattle.spec_base.proofs.Numbers.{length-digits}
 use Rattle.spec_base.proofs.Laws.{Lawful, Items, StandItems, stands-item, stand-rest}
@@ -68,6 +69,9 @@ module _ {A B : Type 0} (L : Layout A) (M : Layout B) {P : A → Type 0} {Q : B 
 module _ {A B : Type 0} (L : Layout A) (to : A → B) (from : B → A) {P : A → Type 0} {Q : B → Type 0} where
   pub full-iso : ((b : B) → Q b → P (from b)) → Full L P → Full (iso L to from) Q
   full-iso here F = record { fills = λ v o s t p q. F .fills (from v) (here v o) s t p q }
+
+  pub full-where : (test : A → Bool) → ((b : B) → Q b → P (from b)) → Full L P → Full (isoWhere L test to from) Q
+  full-where test here F = record { fills = λ v o s t p q. F .fills (from v) (here v o) s t p q }
 
 module _ {A : Type 0} (L : Layout A) {P : A → Type 0} where
   full-list : Full L P → (xs : List A) → All P xs → (s t : List ℕ) → length s ≡ length xs * L .size → length t ≡ length xs * L .size → writeItems L xs s ≡ writeItems L xs t

@@ -3,7 +3,7 @@ use Prim.Native.Nat.{ℕ, zero, suc, _+_, _*_, _^_, _≤_, _<_}
 use native.Mathlib.Nat.{not-suc-le-zero, le-of-suc-le-suc, le-trans, le-of-eq, mul-le-mul-right, pow-le-pow-right}
 use native.Mathlib.Omega.{arith}
 use mathlib.Core.Path.{_≡_, refl, sym, ap, _∙_, subst}
-use mathlib.Core.Bool.{true}
+use mathlib.Core.Bool.{Bool, true}
 use mathlib.Core.List.{List, [], _∷_, _++_}
 use lib.Dec.{eqb}
 use lib.ListN.{length, getD, set, take, drop, length-append, length-take, length-drop, length-set, take-append-drop}
@@ -12,7 +12,7 @@ use borrow.Author.Tests.{ltb-true, lt-ltb}
 use Rattle.spec_base.specs.Folds.{toℕ, All}
 use Rattle.spec_base.proofs.Tests.{and-l, and-r, and-of, one-lt, one-eqb, eqb-one}
 use Rattle.spec_base.specs.Number.{Bytes, number, digits}
-use Rattle.spec_base.specs.Layout.{Layout, slice, overwrite, byte, flag, big, pair, iso, items, readItems, writeItems, wellFormedItems}
+use Rattle.spec_base.specs.Layout.{Layout, slice, overwrite, byte, flag, big, pair, iso, isoWhere, items, readItems, writeItems, wellFormedItems}
 use Rattle.spec_base.proofs.Parts.{bytes-drop, bytes-take, bytes-append, bytes-set, length-part, length-cover, cover-room, cover-same, cover-again, bytes-cover}
 use Rattle.spec_base.proofs.Numbers.{length-digits, bytes-digits, number-digits, number-below, digits-number}
 
@@ -220,6 +220,29 @@ module _ {A B : Type 0} (L : Layout A) (to : A → B) (from : B → A) where
           back = λ v s o l. ap to (λL .back (from v) s (here v o) l) ∙ to-from v o;
           again = λ v w s o q l. λL .again (from v) (from w) s (here v o) (here w q) l;
           forms = λ v s o l. λL .forms (from v) s (here v o) l;
+          bytes = λ v s o h. λL .bytes (from v) s (here v o) h;
+          holds = λ s h. there (L .read s) (λL .holds s h);
+        }
+
+-- the same where only values that pass a test are written
+module _ {A B : Type 0} (L : Layout A) (test : A → Bool) (to : A → B) (from : B → A) where
+  pub stands-where : (s : List ℕ) → Stands (isoWhere L test to from) s → Stands L s
+  stands-where s h = record { bytes = h .bytes; wellFormed = and-l (L .wellFormed s) (test (L .read s)) (h .wellFormed); room = h .room }
+
+  module _ {P : A → Type 0} {Q : B → Type 0} (λL : Lawful L P)
+      (there : (a : A) → P a → Q (to a)) (here : (b : B) → Q b → P (from b)) (passes : (b : B) → test (from b) ≡ true)
+      (from-to : (a : A) → test a ≡ true → from (to a) ≡ a) (to-from : (b : B) → to (from b) ≡ b) where
+    pub where-lawful : Lawful (isoWhere L test to from) Q
+    where-lawful =
+        record {
+          keeps = λ v s. λL .keeps (from v) s;
+          unchanged = λ s h.
+              ap (λ (a : A). L .write a s) (from-to (L .read s) (and-r (L .wellFormed s) (test (L .read s)) (h .wellFormed))) ∙ λL .unchanged s (stands-where s h);
+          back = λ v s o l. ap to (λL .back (from v) s (here v o) l) ∙ to-from v;
+          again = λ v w s o q l. λL .again (from v) (from w) s (here v o) (here w q) l;
+          forms = λ v s o l.
+              and-of (L .wellFormed (L .write (from v) s)) (test (L .read (L .write (from v) s))) (λL .forms (from v) s (here v o) l)
+              (ap test (λL .back (from v) s (here v o) l) ∙ passes v);
           bytes = λ v s o h. λL .bytes (from v) s (here v o) h;
           holds = λ s h. there (L .read s) (λL .holds s h);
         }

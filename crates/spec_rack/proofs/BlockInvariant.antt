@@ -1,20 +1,21 @@
 -- What a change of one block and the mesh leaves sound, coherent and of words that fit: the other blocks are as they were.
-use mathlib.Core.Path.{_≡_, refl, ap, _∙_}
+use mathlib.Core.Path.{_≡_, refl, ap, _∙_, subst}
 use mathlib.Core.Bool.{Bool, true, cond}
-use mathlib.Core.List.{List, []}
-use Prim.Native.Nat.{ℕ, _+_, _^_, _≤_, _<_}
+use mathlib.Core.List.{List, [], _∷_}
+use Prim.Native.Nat.{ℕ, zero, suc, _+_, _^_, _≤_, _<_}
 use native.Mathlib.Omega.{arith}
 use borrow.Author.Tests.{eq-eqb, ne-eqb, leb-true}
 use lib.ListN.{length, getD, set, length-set}
 use lib.Dec.{eqb}
 use Rattle.spec_base.specs.Folds.{sum, All}
 use Rattle.spec_base.proofs.Tests.{and-r}
-use Rattle.spec_base.proofs.Folds.{all-at, all-set, sum-at, sum-set, at-set}
+use Rattle.spec_base.proofs.Folds.{all-at, all-map, all-set, sum-at, sum-set, at-set}
 use Rattle.spec_rack.specs.declared.Message.{Message}
-use Rattle.spec_rack.specs.Rack.{Cell, Block, Rack, meshLimit, noCell, noBlock, noMessage, blockAt, claimsAt, cellAt, messageAt, owners, held, carried, inFlight, total}
+use Rattle.spec_rack.specs.Rack.{Cell, Block, Rack, meshLimit, clean, noCell, noBlock, noMessage, blockAt, claimsAt, cellAt, messageAt, owners, held, carried, inFlight, total}
 use Rattle.spec_rack.specs.Rules.{changed, withCell}
 use Rattle.spec_rack.specs.FlatMemory.{Memory}
 use Rattle.spec_rack.proofs.SoundnessFacts.{SoundCell, SoundMessage, SoundShape, Sound}
+use Rattle.spec_rack.proofs.OwnerLaws.{NotDirty}
 
 -- the owners of a cell and of a message, as figures beside `held` and `carried`
 
@@ -39,11 +40,26 @@ in-flight-at r g i h =
 
 -- ---- a property of every cell, by its block, and of every message
 
+-- what holds of each element, and of what stands past the end, holds at every place
+pub all-anywhere : {A : Type 0} (P : A → Type 0) (l : List A) → All P l → (d : A) → P d → (i : ℕ) → P (getD l i d)
+all-anywhere P [] h d p i = p
+all-anywhere P (x ∷ xs) h d p zero = h .0
+all-anywhere P (x ∷ xs) h d p (suc i) = all-anywhere P xs (h .1) d p i
+
 pub record Everywhere (P : ℕ → Cell → Type 0) (Q : Message → Type 0) (r : Rack) : Type 0 where
   pub cells : (b : ℕ) → b < length (r .blocks) → All (P b) (blockAt r b .cells)
   pub mesh : All Q (r .mesh)
 
--- coherence: a valid cell, and a message with data, has the flat memory's words
+pub everywhere-map : (P P′ : ℕ → Cell → Type 0) (Q Q′ : Message → Type 0) (r : Rack)
+    → ((b : ℕ) (x : Cell) → P b x → P′ b x) → ((m : Message) → Q m → Q′ m) → Everywhere P Q r → Everywhere P′ Q′ r
+everywhere-map P P′ Q Q′ r f g h =
+    record {
+      cells = λ b l. all-map (P b) (P′ b) (blockAt r b .cells) (h .cells b l) (f b);
+      mesh = all-map Q Q′ (r .mesh) (h .mesh) g;
+    }
+
+-- coherence: a valid cell, and a message with data, has the flat memory's words; and where the owner of a block is clean, in a cell or a message, home's
+-- words of the block are the flat memory's, home valid or not; home's own owner is never dirty
 
 abbrev pub CellHas : Memory → ℕ → Cell → Type 0
 CellHas mem b x = x .valid ≡ true → x .words ≡ getD mem b []
@@ -51,9 +67,28 @@ CellHas mem b x = x .valid ≡ true → x .words ≡ getD mem b []
 abbrev pub MessageHas : Memory → Message → Type 0
 MessageHas mem m = m .header .«data» ≡ true → m .words ≡ getD mem (m .header .block) []
 
+abbrev pub HomeHas : Memory → Rack → ℕ → Type 0
+HomeHas mem r b = cellAt r b 0 .words ≡ getD mem b []
+
+-- H of each block whose owner is clean
+abbrev pub CleanCell : (ℕ → Type 0) → ℕ → Cell → Type 0
+CleanCell H b x = clean (x .owner) ≡ true → H b
+
+abbrev pub CleanMessage : (ℕ → Type 0) → Message → Type 0
+CleanMessage H m = clean (m .header .owner) ≡ true → H (m .header .block)
+
+abbrev pub WhereClean : (ℕ → Type 0) → Rack → Type 0
+WhereClean H r = Everywhere (CleanCell H) (CleanMessage H) r
+
+pub where-clean-map : (H H′ : ℕ → Type 0) (r : Rack) → ((b : ℕ) → H b → H′ b) → WhereClean H r → WhereClean H′ r
+where-clean-map H H′ r f =
+    everywhere-map (CleanCell H) (CleanCell H′) (CleanMessage H) (CleanMessage H′) r (λ b x h u. f b (h u)) (λ m h u. f (m .header .block) (h u))
+
 pub record Coherent (r : Rack) (mem : Memory) : Type 0 where
   pub rows : length mem ≡ length (r .blocks)
   pub has : Everywhere (CellHas mem) (MessageHas mem) r
+  pub home : WhereClean (HomeHas mem r) r
+  pub not-dirty : (b : ℕ) → NotDirty (cellAt r b 0 .owner)
 
 -- every word fits 32 bits: what the byte layout asks besides soundness
 
@@ -179,3 +214,21 @@ module _ (r : Rack) (s : Sound r) (b c : ℕ) (inB : b < length (r .blocks)) (in
   unfolding block
   with-cell-everywhere P Q h px qms =
       changed-everywhere r b block ms inB P Q (all-set (P b) (blockAt r b .cells) c x (h .cells b inB) px) (λ j l ne. h .cells j l) qms
+
+  -- home's cell of a block after the change: x where that is home's cell of this block, else as it was
+  pub home-after : (j : ℕ) (G : Cell → Type 0) → (j ≡ b → 0 ≡ c → G x) → ((j ≡ b → 0 ≡ c → ⊥) → G (cellAt r j 0)) → G (cellAt (withCell r b c x ms) j 0)
+  unfolding block
+  home-after j G new old =
+      at-set (λ y. G (getD (y .cells) 0 noCell)) (r .blocks) b j block noBlock inB
+      (λ e.
+      at-set G (blockAt r b .cells) c 0 x noCell (cell-in r s b c inB inN) (new e)
+      (λ ne. subst (λ (k : ℕ). G (cellAt r k 0)) e (old (λ q. ne))))
+      (λ ne. old (λ e z. ne e))
+
+  -- so what holds of home's cell of every block stays, if the change keeps it in x where that is home's
+  pub home-kept : (G : ℕ → Cell → Type 0) → (0 ≡ c → G b (cellAt r b c) → G b x)
+      → (j : ℕ) → G j (cellAt r j 0) → G j (cellAt (withCell r b c x ms) j 0)
+  home-kept G f j h =
+      home-after j (G j)
+      (λ e z. rw e (f z (subst (λ (k : ℕ). G b (cellAt r b k)) z (subst (λ (k : ℕ). G k (cellAt r k 0)) e h))))
+      (λ ne. h)

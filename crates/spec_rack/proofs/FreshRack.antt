@@ -5,7 +5,7 @@ use mathlib.Core.List.{[]}
 use Prim.Native.Nat.{ℕ, suc, _+_, _^_, _≤_, _<_}
 use native.Mathlib.Omega.{arith}
 use borrow.Author.Tests.{leb-true}
-use lib.ListN.{length, length-replicate, getD-replicate}
+use lib.ListN.{length, getD, replicate, length-replicate, getD-replicate}
 use Rattle.spec_base.specs.Folds.{sum, All}
 use Rattle.spec_base.proofs.Tests.{differs, and-l, and-r}
 use Rattle.spec_base.proofs.Folds.{all-replicate, sum-replicate}
@@ -20,7 +20,8 @@ use Rattle.spec_rack.specs.Soundness.{sizes, sound}
 use Rattle.spec_rack.specs.Rules.{accepted, settled, openingCheck, opening}
 use Rattle.spec_rack.specs.FlatMemory.{blank}
 use Rattle.spec_rack.proofs.SoundnessFacts.{SoundCell, SoundShape, Sound, sound-test}
-use Rattle.spec_rack.proofs.BlockInvariant.{cellOwners, messageOwners, Everywhere, CellHas, MessageHas, Coherent, Fit, CellFits, MessageFits, Fits}
+use Rattle.spec_rack.proofs.OwnerLaws.{NotDirty}
+use Rattle.spec_rack.proofs.BlockInvariant.{cellOwners, messageOwners, all-anywhere, Everywhere, CellHas, MessageHas, HomeHas, CleanCell, CleanMessage, Coherent, Fit, CellFits, MessageFits, Fits}
 
 -- an accepted opening has sizes in range and gives the fresh rack
 pub opened : (n b t : ℕ) (r : Rack) → opening n b t ≡ accepted Done r → (sizes n b t ≡ true) × (fresh n b t ≡ r)
@@ -54,7 +55,16 @@ module _ (n b t : ℕ) where
       record {
         rows = length-replicate b zeros ∙ sym (length-replicate b (freshBlock n t));
         has = everywhere (CellHas (blank b)) (MessageHas (blank b)) (λ k l. let e = getD-replicate b k zeros [] l in ((λ v. sym e), (λ v. sym e)));
+        home = everywhere (CleanCell Home) (CleanMessage Home) (λ k l. ((λ v. home k l), (λ v. home k l)));
+        not-dirty =
+            all-anywhere (λ y. NotDirty (getD (y .cells) 0 noCell .owner)) (replicate b (freshBlock n t)) (all-replicate _ b (freshBlock n t) tt) noBlock tt;
       }
+    where
+      Home : ℕ → Type 0
+      Home = HomeHas (blank b) (fresh n b t)
+
+      home : (k : ℕ) → k < b → Home k
+      home k l = ap (λ (y : Block). getD (y .cells) 0 noCell .words) (fresh-block k (rw length-replicate l)) ∙ sym (getD-replicate b k zeros [] l)
 
   pub fresh-fits : Fits (fresh n b t)
   fresh-fits = everywhere CellFits MessageFits (λ k l. (small, small))

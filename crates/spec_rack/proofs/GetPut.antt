@@ -5,27 +5,27 @@ use native.Mathlib.Nat.{le-refl, zero-add, le-trans, le-of-eq, mul-le-mul-right}
 use native.Mathlib.Omega.{arith}
 use mathlib.Core.Path.{_≡_, refl, sym, ap, _∙_, subst}
 use mathlib.Core.Bool.{Bool, true, false}
-use mathlib.Core.List.{List, [], _∷_, map}
+use mathlib.Core.List.{List, [], _∷_, _++_, map}
 use lib.Dec.{eqb, leb}
-use lib.ListN.{length, getD, set, take, drop, length-set, List·getD-map}
-use lib.Seq.{length-take-le, take-take, getD-take, getD-drop, set-comm, set-getD}
+use lib.ListN.{length, getD, set, take, drop, length-set, length-map, List·getD-map}
+use lib.Seq.{length-take-le, take-take, getD-take, getD-drop, set-getD}
 use borrow.Author.Tests.{leb-true, le-leb}
 use Rattle.spec_base.specs.Folds.{toℕ, All, zip}
 use Rattle.spec_base.proofs.Tests.{and-l, and-r, and-of}
 use Rattle.spec_base.specs.Number.{Bytes}
 use Rattle.spec_base.specs.Layout.{Layout, slice, modifyAt, byte, flag, pair, items, readItems, writeItems, room, lane, zipped}
-use Rattle.spec_base.proofs.Parts.{bytes-take, length-part}
+use Rattle.spec_base.proofs.Parts.{bytes-take, length-part, part-part, over-over}
 use Rattle.spec_base.proofs.Laws.{Stands, StandItems, stand-items, Lawful, byte-lawful, pair-lawful, pair-again, items-again, items-unchanged, items-lawful, Items, length-readItems, cut-rest}
 use Rattle.spec_base.proofs.Places.{Place, within, first, second, item, write-byte}
 use Rattle.spec_base.proofs.Padded.{room-lawful, padded-place}
-use Rattle.spec_base.proofs.Lanes.{zip-length, zip-at, map-set, length-lane, Spread, place-iso, spread-within, spread-as, spread-iso, spread-zipped, spread-byte, spread-flag, set-first, over-set, over-none, over-three}
+use Rattle.spec_base.proofs.Lanes.{zip-length, zip-at, map-set, length-lane, Spread, place-iso, spread-place, spread-within, spread-as, spread-iso, spread-pair, over-both, spread-zipped, spread-byte, spread-flag, spread-each, first-set, over-one, over-two, over-three, over-four}
 use Rattle.spec_rack.specs.Claims.{Claims}
-use Rattle.spec_rack.specs.RecordLayout.{claims, headerSize, blockSize, blockOffset, ownerOffset, validOffset, wordsOffset, wordsSize, Tokens, tokens, words, message, tokenLanes, toCell, cellTokens, toBlock, fromBlock, block, header, RackFields, rackLayout, recordLength, toRack, fromRack, layoutOf, get, put, blocksIn, boardsIn, claimsOffset, claimsRoom, messagesIn, tokensIn, meshRoom, laneSize}
+use Rattle.spec_rack.specs.RecordLayout.{claims, headerSize, blockSize, blockOffset, dirtyOffset, wordsOffset, wordsSize, Tokens, noTokens, TokenBytes, toTokens, fromTokens, dirtyHasOwner, byteLanes, lanesAt, setTokenBytes, setLanes, words, message, tokenLanes, toCell, cellTokens, toBlock, fromBlock, block, header, RackFields, rackLayout, recordLength, toRack, fromRack, layoutOf, get, put, blocksIn, boardsIn, claimsOffset, claimsRoom, messagesIn, tokensIn, meshRoom, laneSize}
 use Rattle.spec_rack.specs.declared.Message.{Message}
 use Rattle.spec_rack.specs.Rack.{Cell, Block, Rack, zeros, noCell, noBlock, blockAt}
 use Rattle.spec_rack.specs.Rules.{changed}
 use Rattle.spec_rack.specs.Soundness.{wellFormedRecord}
-use Rattle.spec_rack.proofs.LayoutParts.{WordsFit, ClaimsFit, MessageFits, BlockFits, HeaderFits, words-size, lanes-size, claims-size, message-size, block-size, header-size, words-lawful, message-lawful, lanes-lawful, claims-lawful, blockTokens, blockClaims, blockWords, block-tokens-lawful, block-claims-lawful, block-words-lawful, block-lawful, header-lawful, cells-tokens, cells-words}
+use Rattle.spec_rack.proofs.LayoutParts.{WordsFit, ClaimsFit, MessageFits, BlockFits, HeaderFits, words-size, lanes-size, token-bytes-back, claims-size, message-size, block-size, header-size, words-lawful, message-lawful, lanes-lawful, claims-lawful, blockTokens, blockClaims, blockWords, block-tokens-lawful, block-claims-lawful, block-words-lawful, block-lawful, header-lawful, cells-tokens, cells-words}
 
 -- ---- N, B, T and the count of messages
 
@@ -104,68 +104,135 @@ module _ (n b m : ℕ) where
 
 -- ---- the places in a block: its claims, the tokens of a component, its words
 
-flags-length : (n : ℕ) (t : List ℕ) → length (zipped (lane flag (suc n)) (lane flag (suc n)) .read t) ≡ suc n
-flags-length n t =
-    zip-length (lane flag (suc n) .read (take laneSize t)) (lane flag (suc n) .read (slice laneSize laneSize t))
-    (length-lane flag (suc n) (take laneSize t) ∙ sym (length-lane flag (suc n) (slice laneSize laneSize t)))
-    ∙ length-lane flag (suc n) (take laneSize t)
+module _ (n : ℕ) where
+  abbrev flags : Layout (List Bool)
+  flags = lane flag (suc n)
 
-pub lanes-length : (n : ℕ) (s : List ℕ) → length (tokenLanes n .read s) ≡ suc n
-unfolding tokenLanes
-lanes-length n s =
-    zip-length (lane byte (suc n) .read (take laneSize s)) (zipped (lane flag (suc n)) (lane flag (suc n)) .read (slice laneSize (2 * laneSize) s))
-    (length-lane byte (suc n) (take laneSize s) ∙ sym (flags-length n (slice laneSize (2 * laneSize) s)))
-    ∙ length-lane byte (suc n) (take laneSize s)
+  two-long : (t : List ℕ) → length (zipped flags flags .read t) ≡ suc n
+  two-long t =
+      zip-length (flags .read (take laneSize t)) (flags .read (slice laneSize laneSize t))
+      (length-lane flag (suc n) (take laneSize t) ∙ sym (length-lane flag (suc n) (slice laneSize laneSize t)))
+      ∙ length-lane flag (suc n) (take laneSize t)
 
--- the tokens of component c in the bytes of a block: one byte in each lane, read and written
-abbrev pub laneTokens : ℕ → List ℕ → Tokens
-laneTokens c s = (getD s c 0, (eqb (getD s (ownerOffset + c) 0) 1, eqb (getD s (validOffset + c) 0) 1))
+  three-long : (t : List ℕ) → length (zipped flags (zipped flags flags) .read t) ≡ suc n
+  three-long t =
+      zip-length (flags .read (take laneSize t)) (zipped flags flags .read (slice laneSize (2 * laneSize) t))
+      (length-lane flag (suc n) (take laneSize t) ∙ sym (two-long (slice laneSize (2 * laneSize) t)))
+      ∙ length-lane flag (suc n) (take laneSize t)
 
-abbrev pub withLaneTokens : ℕ → Tokens → List ℕ → List ℕ
-withLaneTokens c v s = set (set (set s c (v .0)) (ownerOffset + c) (toℕ (v .1 .0))) (validOffset + c) (toℕ (v .1 .1))
+  pub bytes-length : (s : List ℕ) → length (byteLanes n .read s) ≡ suc n
+  unfolding byteLanes
+  bytes-length s =
+      zip-length (lane byte (suc n) .read (take laneSize s)) (zipped flags (zipped flags flags) .read (slice laneSize (3 * laneSize) s))
+      (length-lane byte (suc n) (take laneSize s) ∙ sym (three-long (slice laneSize (3 * laneSize) s)))
+      ∙ length-lane byte (suc n) (take laneSize s)
 
--- marks and counts in lanes: the three bytes of component c
-pub lanes-spread : (n : ℕ) → n ≤ 15 → (c : ℕ) → c ≤ n
-    → Spread {B = Tokens} (tokenLanes n) (λ l. getD l c (0, (false, false))) (λ v l. set l c v)
-    (laneTokens c) (withLaneTokens c)
-unfolding tokenLanes
-lanes-spread n h c hc =
-    spread-as (spread-zipped (λ s t. length-lane byte (suc n) s ∙ sym (flags-length n t)) c 0 (false, false) (spread-byte (suc n) (suc-le-suc h) c (suc-le-suc hc)) flags)
-    (laneTokens c) (withLaneTokens c)
-    (λ s. λ i. (
-      getD-take laneSize s c 0 (omega arith) i,
-      (
-        eqb ((getD-take (2 * laneSize) (drop laneSize s) c 0 (omega arith) ∙ getD-drop laneSize s c 0) i) 1,
-        eqb ((getD-take (2 * laneSize) (drop laneSize s) (ownerOffset + c) 0 (omega arith) ∙ getD-drop laneSize s (ownerOffset + c) 0 ∙ ap (λ (k : ℕ). getD s k 0) (let e : laneSize + (ownerOffset + c) ≡ validOffset + c = omega arith in e)) i) 1,
-      ),
-    ))
-    (λ v s l.
-    set-first laneSize (2 * laneSize) s (λ t. set (set t (ownerOffset + c) (toℕ (v .1 .1))) c (toℕ (v .1 .0))) c (v .0) (omega arith) (omega arith)
-    ∙ ap (λ (t : List ℕ). set t c (v .0))
-    (over-set laneSize (2 * laneSize) s l (λ t. set t (ownerOffset + c) (toℕ (v .1 .1))) c (toℕ (v .1 .0)) (length-set (slice laneSize (2 * laneSize) s) (ownerOffset + c) (toℕ (v .1 .1))) (omega arith)
-    ∙ ap (λ (t : List ℕ). set t (ownerOffset + c) (toℕ (v .1 .0)))
-    (over-set laneSize (2 * laneSize) s l (λ t. t) (ownerOffset + c) (toℕ (v .1 .1)) refl (omega arith)
-    ∙ (λ i. set (over-none laneSize (2 * laneSize) s l i) (let e : laneSize + (ownerOffset + c) ≡ validOffset + c = omega arith in e i) (toℕ (v .1 .1)))))
-    ∙ ap (λ (t : List ℕ). set t c (v .0)) (set-comm s (validOffset + c) (ownerOffset + c) (toℕ (v .1 .1)) (toℕ (v .1 .0)) (λ e. omega arith))
-    ∙ set-comm (set s (ownerOffset + c) (toℕ (v .1 .0))) (validOffset + c) c (toℕ (v .1 .1)) (v .0) (λ e. omega arith)
-    ∙ ap (λ (t : List ℕ). set t (validOffset + c) (toℕ (v .1 .1))) (set-comm s (ownerOffset + c) c (toℕ (v .1 .0)) (v .0) (λ e. omega arith)))
-  where
-    flags : Spread {B = Bool × Bool} (zipped (lane flag (suc n)) (lane flag (suc n))) (λ l. getD l c (false, false)) (λ v l. set l c v)
-        (λ s. (eqb (getD s c 0) 1, eqb (getD s (ownerOffset + c) 0) 1)) (λ v s. set (set s (ownerOffset + c) (toℕ (v .1))) c (toℕ (v .0)))
-    flags =
-        spread-as
-        (spread-zipped (λ s t. length-lane flag (suc n) s ∙ sym (length-lane flag (suc n) t)) c false false (spread-flag (suc n) (suc-le-suc h) c (suc-le-suc hc)) (spread-flag (suc n) (suc-le-suc h) c (suc-le-suc hc)))
-        (λ s. (eqb (getD s c 0) 1, eqb (getD s (ownerOffset + c) 0) 1)) (λ v s. set (set s (ownerOffset + c) (toℕ (v .1))) c (toℕ (v .0)))
-        (λ s. λ i. (eqb (getD-take laneSize s c 0 (omega arith) i) 1, eqb ((getD-take laneSize (drop laneSize s) c 0 (omega arith) ∙ getD-drop laneSize s c 0) i) 1))
+  pub lanes-length : (s : List ℕ) → length (tokenLanes n .read s) ≡ suc n
+  unfolding tokenLanes
+  lanes-length s = length-map (byteLanes n .read s) toTokens ∙ bytes-length s
+
+  -- the bytes of component c, one in each lane
+  module _ (h : n ≤ 15) (c : ℕ) (hc : c ≤ n) where
+    known : c < laneSize
+    known = omega arith
+
+    lane-byte : Spread (lane byte (suc n)) (λ xs. getD xs c 0) (λ v xs. set xs c v) (λ s. getD s c 0) (λ v s. set s c v)
+    lane-byte = spread-byte (suc n) (suc-le-suc h) c (suc-le-suc hc)
+
+    lane-flag : Spread flags (λ xs. getD xs c false) (λ v xs. set xs c v) (λ s. eqb (getD s c 0) 1) (λ v s. set s c (toℕ v))
+    lane-flag = spread-flag (suc n) (suc-le-suc h) c (suc-le-suc hc)
+
+    -- a byte behind the first lane
+    behind : (m : ℕ) (s : List ℕ) (i j : ℕ) → i < m → laneSize + i ≡ j → getD (slice laneSize m s) i 0 ≡ getD s j 0
+    behind m s i j l e = getD-take m (drop laneSize s) i 0 l ∙ getD-drop laneSize s i 0 ∙ ap (λ (k : ℕ). getD s k 0) e
+
+    two : Spread {B = Bool × Bool} (zipped flags flags) (λ l. getD l c (false, false)) (λ v l. set l c v)
+        (λ s. (eqb (getD s c 0) 1, eqb (getD s (c + 16) 0) 1)) (λ v s. set (set s c (toℕ (v .0))) (c + 16) (toℕ (v .1)))
+    two =
+        spread-as (spread-zipped (λ s t. length-lane flag (suc n) s ∙ sym (length-lane flag (suc n) t)) c false false lane-flag lane-flag)
+        (λ s. (eqb (getD s c 0) 1, eqb (getD s (c + 16) 0) 1)) (λ v s. set (set s c (toℕ (v .0))) (c + 16) (toℕ (v .1)))
+        (λ s. λ i. (eqb (getD-take 16 s c 0 known i) 1, eqb (behind 16 s c (c + 16) known (omega arith) i) 1))
         (λ v s l.
-        set-first laneSize laneSize s (λ t. set t c (toℕ (v .1))) c (toℕ (v .0)) (omega arith) (omega arith)
-        ∙ ap (λ (t : List ℕ). set t c (toℕ (v .0))) (over-set laneSize laneSize s l (λ t. t) c (toℕ (v .1)) refl (omega arith) ∙ ap (λ (t : List ℕ). set t (ownerOffset + c) (toℕ (v .1))) (over-none laneSize laneSize s l)))
+        first-set 16 16 s (λ t. set t c (toℕ (v .1))) c (toℕ (v .0)) l known
+        ∙ over-one 16 16 (set s c (toℕ (v .0))) (simp length-set l) c (toℕ (v .1)) known
+        ∙ ap (λ (k : ℕ). set (set s c (toℕ (v .0))) k (toℕ (v .1))) (let e : 16 + c ≡ c + 16 = omega arith in e))
 
--- three bytes set in the first k
-front-three : (k : ℕ) (s : List ℕ) → k ≤ length s → (a b c x y z : ℕ) → a < k → b < k → c < k
-    → modifyAt 0 k (λ t. set (set (set t a x) b y) c z) s ≡ set (set (set s a x) b y) c z
-front-three k s l a b c x y z ha hb hc =
-    over-three 0 k s (omega arith) a b c x y z ha hb hc ∙ (λ i. set (set (set s (zero-add a i) x) (zero-add b i) y) (zero-add c i) z)
+    three : Spread {B = Bool × (Bool × Bool)} (zipped flags (zipped flags flags)) (λ l. getD l c (false, (false, false))) (λ v l. set l c v)
+        (λ s. (eqb (getD s c 0) 1, (eqb (getD s (c + 16) 0) 1, eqb (getD s (c + 32) 0) 1)))
+        (λ v s. set (set (set s c (toℕ (v .0))) (c + 16) (toℕ (v .1 .0))) (c + 32) (toℕ (v .1 .1)))
+    three =
+        spread-as (spread-zipped (λ s t. length-lane flag (suc n) s ∙ sym (two-long t)) c false (false, false) lane-flag two)
+        (λ s. (eqb (getD s c 0) 1, (eqb (getD s (c + 16) 0) 1, eqb (getD s (c + 32) 0) 1)))
+        (λ v s. set (set (set s c (toℕ (v .0))) (c + 16) (toℕ (v .1 .0))) (c + 32) (toℕ (v .1 .1)))
+        (λ s. λ i. (
+          eqb (getD-take 16 s c 0 known i) 1,
+          (eqb (behind 32 s c (c + 16) (omega (arith, known)) (omega arith) i) 1, eqb (behind 32 s (c + 16) (c + 32) (omega (arith, known)) (omega arith) i) 1),
+        ))
+        (λ v s l.
+        first-set 16 32 s (λ t. set (set t c (toℕ (v .1 .0))) (c + 16) (toℕ (v .1 .1))) c (toℕ (v .0)) l known
+        ∙ over-two 16 32 (set s c (toℕ (v .0))) (simp length-set l) c (c + 16) (toℕ (v .1 .0)) (toℕ (v .1 .1)) (omega (arith, known)) (omega (arith, known))
+        ∙ (λ i.
+        set (set (set s c (toℕ (v .0))) (let e : 16 + c ≡ c + 16 = omega arith in e i) (toℕ (v .1 .0)))
+        (let e : 16 + (c + 16) ≡ c + 32 = omega arith in e i) (toℕ (v .1 .1))))
+
+    pub bytes-spread : Spread {B = TokenBytes} (byteLanes n) (λ l. getD l c (0, (false, (false, false)))) (λ v l. set l c v)
+        (λ s. (getD s c 0, (eqb (getD s (c + 16) 0) 1, (eqb (getD s (c + 32) 0) 1, eqb (getD s (c + 48) 0) 1)))) (setTokenBytes c)
+    unfolding byteLanes
+    bytes-spread =
+        spread-as (spread-zipped (λ s t. length-lane byte (suc n) s ∙ sym (three-long t)) c 0 (false, (false, false)) lane-byte three)
+        (λ s. (getD s c 0, (eqb (getD s (c + 16) 0) 1, (eqb (getD s (c + 32) 0) 1, eqb (getD s (c + 48) 0) 1)))) (setTokenBytes c)
+        (λ s. λ i. (
+          getD-take 16 s c 0 known i,
+          (
+            eqb (behind 48 s c (c + 16) (omega (arith, known)) (omega arith) i) 1,
+            (eqb (behind 48 s (c + 16) (c + 32) (omega (arith, known)) (omega arith) i) 1, eqb (behind 48 s (c + 32) (c + 48) (omega (arith, known)) (omega arith) i) 1),
+          ),
+        ))
+        (λ v s l.
+        first-set 16 48 s (λ t. set (set (set t c (toℕ (v .1 .0))) (c + 16) (toℕ (v .1 .1 .0))) (c + 32) (toℕ (v .1 .1 .1))) c (v .0) l known
+        ∙ over-three 16 48 (set s c (v .0)) (simp length-set l) c (c + 16) (c + 32) (toℕ (v .1 .0)) (toℕ (v .1 .1 .0)) (toℕ (v .1 .1 .1))
+        (omega (arith, known)) (omega (arith, known)) (omega (arith, known))
+        ∙ (λ i.
+        set
+        (set (set (set s c (v .0)) (let e : 16 + c ≡ c + 16 = omega arith in e i) (toℕ (v .1 .0)))
+        (let e : 16 + (c + 16) ≡ c + 32 = omega arith in e i) (toℕ (v .1 .1 .0)))
+        (let e : 16 + (c + 32) ≡ c + 48 = omega arith in e i) (toℕ (v .1 .1 .1))))
+
+    -- read as tokens
+    lanes-spread : Spread {B = Tokens} (tokenLanes n) (λ l. getD l c noTokens) (λ v l. set l c v) (lanesAt c) (setLanes c)
+    unfolding tokenLanes
+    lanes-spread = spread-each dirtyHasOwner toTokens fromTokens token-bytes-back c (0, (false, (false, false))) bytes-spread
+
+-- four bytes written in a part, and read of it
+module _ (p m c : ℕ) (s : List ℕ) (h : c + dirtyOffset < m) where
+  pub token-bytes-in : (v : TokenBytes) → p + m ≤ length s → modifyAt p m (setTokenBytes c v) s ≡ setTokenBytes (p + c) v s
+  token-bytes-in v l =
+      over-four p m s l c (c + 16) (c + 32) (c + 48) (v .0) (toℕ (v .1 .0)) (toℕ (v .1 .1 .0)) (toℕ (v .1 .1 .1)) (omega arith) (omega arith) (omega arith) (omega arith)
+      ∙ (λ i.
+      set
+      (set (set (set s (p + c) (v .0)) (let e : p + (c + 16) ≡ p + c + 16 = omega arith in e i) (toℕ (v .1 .0)))
+      (let e : p + (c + 32) ≡ p + c + 32 = omega arith in e i) (toℕ (v .1 .1 .0)))
+      (let e : p + (c + 48) ≡ p + c + 48 = omega arith in e i) (toℕ (v .1 .1 .1)))
+
+  pub lanes-in : lanesAt c (slice p m s) ≡ lanesAt (p + c) s
+  lanes-in = λ i. toTokens (
+    there c (p + c) (omega arith) refl i,
+    (
+      eqb (there (c + 16) (p + c + 16) (omega arith) (omega arith) i) 1,
+      (eqb (there (c + 32) (p + c + 32) (omega arith) (omega arith) i) 1, eqb (there (c + 48) (p + c + 48) (omega arith) (omega arith) i) 1),
+    ),
+  )
+    where
+      there : (i j : ℕ) → i < m → p + i ≡ j → getD (slice p m s) i 0 ≡ getD s j 0
+      there i j l e = getD-take m (drop p s) i 0 l ∙ getD-drop p s i 0 ∙ ap (λ (k : ℕ). getD s k 0) e
+
+-- the same of the first k bytes
+module _ (k c : ℕ) (s : List ℕ) (h : c + dirtyOffset < k) where
+  token-bytes-front : (v : TokenBytes) → k ≤ length s → modifyAt 0 k (setTokenBytes c v) s ≡ setTokenBytes c v s
+  token-bytes-front v l = token-bytes-in 0 k c s h v (omega arith) ∙ ap (λ (j : ℕ). setTokenBytes j v s) (zero-add c)
+
+  lanes-front : lanesAt c (take k s) ≡ lanesAt c s
+  lanes-front = lanes-in 0 k c s h ∙ ap (λ (j : ℕ). lanesAt j s) (zero-add c)
 
 -- a block with another cell of component c, with other tokens of it, with other words of it
 abbrev pub withCellOf : ℕ → Cell → Block → Block
@@ -205,10 +272,10 @@ module _ (n : ℕ) (h : n ≤ 15) where
 
   module _ (c : ℕ) (hc : c ≤ n) where
     -- the cell that is read of tokens and words
-    cell-of : (s : List ℕ) → getD (toBlock (raw .read s) .cells) c noCell ≡ toCell (getD (raw .read s .0) c (0, (false, false)), getD (raw .read s .1 .1) c zeros)
+    cell-of : (s : List ℕ) → getD (toBlock (raw .read s) .cells) c noCell ≡ toCell (getD (raw .read s .0) c noTokens, getD (raw .read s .1 .1) c zeros)
     cell-of s =
-        List·getD-map toCell (zip (raw .read s .0) (raw .read s .1 .1)) c ((0, (false, false)), zeros)
-        ∙ ap toCell (zip-at (raw .read s .0) (raw .read s .1 .1) c (0, (false, false)) zeros (as-many s))
+        List·getD-map toCell (zip (raw .read s .0) (raw .read s .1 .1)) c (noTokens, zeros)
+        ∙ ap toCell (zip-at (raw .read s .0) (raw .read s .1 .1) c noTokens zeros (as-many s))
 
     -- what is left of the others
     set-tokens : (s : List ℕ) (x : Cell) → map cellTokens (set (toBlock (raw .read s) .cells) c x) ≡ set (raw .read s .0) c (cellTokens x)
@@ -226,29 +293,22 @@ module _ (n : ℕ) (h : n ≤ 15) where
         within (second (blockClaims n) (blockWords n) (block-claims-lawful n h) (block-words-lawful n h))
         (item words words-lawful zeros laneSize (suc n) c (suc-le-suc h) (suc-le-suc hc))
 
-    tokens-here : Spread {B = Tokens} (blockTokens n) (λ l. getD l c (0, (false, false))) (λ v l. set l c v)
-        (laneTokens c) (withLaneTokens c)
+    tokens-here : Spread {B = Tokens} (blockTokens n) (λ l. getD l c noTokens) (λ v l. set l c v) (lanesAt c) (setLanes c)
     tokens-here =
         let k : ℕ = tokenLanes n .size in
-        spread-as (spread-within lanes-here (lanes-spread n h c hc))
-        (laneTokens c) (withLaneTokens c)
-        (λ s. λ i. (
-          getD-take k s c 0 (omega (arith, lanes-size n)) i,
-          (eqb (getD-take k s (ownerOffset + c) 0 (omega (arith, lanes-size n)) i) 1, eqb (getD-take k s (validOffset + c) 0 (omega (arith, lanes-size n)) i) 1),
-        ))
-        (λ v s l.
-        front-three k s (omega (arith, lanes-size n, l)) c (ownerOffset + c) (validOffset + c) (v .0) (toℕ (v .1 .0)) (toℕ (v .1 .1)) (omega (arith, lanes-size n)) (omega (arith, lanes-size n)) (omega (arith, lanes-size n)))
+        spread-as (spread-within lanes-here (lanes-spread n h c hc)) (lanesAt c) (setLanes c)
+        (λ s. lanes-front k c s (omega (arith, lanes-size n)))
+        (λ v s l. token-bytes-front k c s (omega (arith, lanes-size n)) (fromTokens v) (omega (arith, lanes-size n, l)))
 
-    -- its tokens: three bytes, one in each lane
-    pub tokens-spread : Spread (block n) (λ k. cellTokens (getD (k .cells) c noCell)) (withTokens c)
-        (laneTokens c) (withLaneTokens c)
+    -- its tokens: four bytes, one in each lane
+    pub tokens-spread : Spread (block n) (λ k. cellTokens (getD (k .cells) c noCell)) (withTokens c) (lanesAt c) (setLanes c)
     unfolding block
     tokens-spread =
         spread-iso
         (spread-as (spread-within (first (blockTokens n) (pair (blockClaims n) (blockWords n)) (block-tokens-lawful n h) rest-lawful) tokens-here)
-        (laneTokens c) (withLaneTokens c)
-        (λ s. λ i. (getD-take claimsOffset s c 0 (omega arith) i, (eqb (getD-take claimsOffset s (ownerOffset + c) 0 (omega arith) i) 1, eqb (getD-take claimsOffset s (validOffset + c) 0 (omega arith) i) 1)))
-        (λ v s l. front-three claimsOffset s (omega arith) c (ownerOffset + c) (validOffset + c) (v .0) (toℕ (v .1 .0)) (toℕ (v .1 .1)) (omega arith) (omega arith) (omega arith)))
+        (lanesAt c) (setLanes c)
+        (λ s. lanes-front claimsOffset c s (omega arith))
+        (λ v s l. token-bytes-front claimsOffset c s (omega arith) (fromTokens v) (omega arith)))
         toBlock fromBlock (λ k. cellTokens (getD (k .cells) c noCell)) (withTokens c)
         (λ s. ap cellTokens (cell-of s))
         (λ v s. λ i. (
@@ -272,9 +332,48 @@ module _ (n : ℕ) (h : n ≤ 15) where
         (λ s. ap (λ (x : Cell). x .words) (cell-of s))
         (λ v s. λ i. (
           (set-tokens s (toCell (cellTokens (getD (toBlock (raw .read s) .cells) c noCell), v))
-              ∙ ap (λ (x : Cell). set (raw .read s .0) c (cellTokens x)) (cell-of s) ∙ set-getD (raw .read s .0) c (0, (false, false))) i,
+              ∙ ap (λ (x : Cell). set (raw .read s .0) c (cellTokens x)) (cell-of s) ∙ set-getD (raw .read s .0) c noTokens) i,
           (raw .read s .1 .0, set-words s (toCell (cellTokens (getD (toBlock (raw .read s) .cells) c noCell), v)) i),
         )))
+
+    -- both: the cell
+    pub cell-spread : Spread {B = Tokens × List ℕ} (block n) (λ k. (cellTokens (getD (k .cells) c noCell), getD (k .cells) c noCell .words)) (λ v. withCellOf c (toCell v))
+        (λ s. (lanesAt c s, words .read (slice (wordsOffset + wordsSize * c) wordsSize s)))
+        (λ v s. modifyAt (wordsOffset + wordsSize * c) wordsSize (words .write (v .1)) (setLanes c (v .0) s))
+    unfolding block
+    cell-spread =
+        spread-iso
+        (spread-as (spread-pair tokens-here (spread-place words-here))
+        (λ s. (lanesAt c s, words .read (slice (wordsOffset + wordsSize * c) wordsSize s)))
+        (λ v s. modifyAt (wordsOffset + wordsSize * c) wordsSize (words .write (v .1)) (setLanes c (v .0) s))
+        (λ s. λ i. (
+          lanes-front claimsOffset c s (omega arith) i,
+          (ap (words .read) (part-part claimsOffset m (claimsRoom + c * z) z s (words-here .inside))
+              ∙ (λ j. words .read (slice (claimsOffset + (claimsRoom + c * words-size j)) (words-size j) s))
+              ∙ ap (λ (k : ℕ). words .read (slice k wordsSize s)) far) i,
+        ))
+        (λ v s l.
+        over-both (setLanes c (v .0)) (modifyAt (claimsRoom + c * z) z (words .write (v .1))) claimsOffset m s (same-lanes (v .0) (take claimsOffset s)) l
+        ∙ over-over (words .write (v .1)) claimsOffset m (claimsRoom + c * z) z (setLanes c (v .0) (take claimsOffset s) ++ drop claimsOffset s) (words-here .inside)
+        ∙ (λ j.
+        modifyAt (claimsOffset + (claimsRoom + c * words-size j)) (words-size j) (words .write (v .1))
+        (token-bytes-front claimsOffset c s (omega arith) (fromTokens (v .0)) (omega arith) j))
+        ∙ ap (λ (k : ℕ). modifyAt k wordsSize (words .write (v .1)) (setLanes c (v .0) s)) far))
+        toBlock fromBlock (λ k. (cellTokens (getD (k .cells) c noCell), getD (k .cells) c noCell .words)) (λ v. withCellOf c (toCell v))
+        (λ s. λ i. (cellTokens (cell-of s i), cell-of s i .words))
+        (λ v s. λ i. (set-tokens s (toCell v) i, (raw .read s .1 .0, set-words s (toCell v) i)))
+      where
+        z : ℕ
+        z = words .size
+
+        m : ℕ
+        m = pair (blockClaims n) (blockWords n) .size
+
+        far : claimsOffset + (claimsRoom + c * wordsSize) ≡ wordsOffset + wordsSize * c
+        far = omega arith
+
+        same-lanes : (v : Tokens) (t : List ℕ) → length (setLanes c v t) ≡ length t
+        same-lanes v t = simp length-set
 
 -- ---- a well-formed record
 

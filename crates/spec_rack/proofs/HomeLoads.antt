@@ -105,7 +105,7 @@ abbrev lines : Bool → Cell → ℕ → Check
 lines off x w = when off || pastWords w refuse OffRack else when eqb (held x) 0 refuse NoToken else when not (x .valid) refuse NoData else Pass
 
 -- a reply does not tell the rack that is left
-any-rack : (k : Check) (a : Answer) (r r′ : Rack) → reply (settled k a r) ≡ reply (settled k a r′)
+pub any-rack : (k : Check) (a : Answer) (r r′ : Rack) → reply (settled k a r) ≡ reply (settled k a r′)
 any-rack Pass a r r′ = refl
 any-rack (Refuse n) a r r′ = refl
 

@@ -3,23 +3,29 @@ use Prim.Native.Nat.{ℕ, suc, _^_, _≤_, _<_, suc-le-suc}
 use native.Mathlib.Nat.{le-refl}
 use native.Mathlib.Omega.{arith}
 use mathlib.Core.Path.{_≡_, refl, sym, ap, _∙_}
+use mathlib.Core.Bool.{Bool, true, false}
 use mathlib.Core.List.{List, [], _∷_, map}
 use lib.ListN.{length, getD, drop, length-map}
-use Rattle.spec_base.specs.Folds.{All, zip}
+use Rattle.spec_base.specs.Folds.{implies, All, zip}
 use Rattle.spec_base.specs.Layout.{Layout, byte, flag, big, pair, items, room, zeroed, padded, lane, zipped}
-use Rattle.spec_base.proofs.Laws.{Lawful, byte-lawful, flag-lawful, big-lawful, pair-lawful, iso-lawful, items-lawful, Items}
-use Rattle.spec_base.proofs.Copies.{Full, full-byte, full-flag, full-big, full-pair, full-iso, full-items}
+use Rattle.spec_base.proofs.Laws.{Lawful, byte-lawful, flag-lawful, big-lawful, pair-lawful, iso-lawful, where-lawful, items-lawful, Items}
+use Rattle.spec_base.proofs.Copies.{Full, full-byte, full-flag, full-big, full-pair, full-iso, full-where, full-items}
 use Rattle.spec_base.proofs.Padded.{room-lawful, zeroed-lawful, full-zeroed, padded-lawful, full-padded}
-use Rattle.spec_base.proofs.Lanes.{lane-lawful, zipped-lawful, zip-length, all-zip, all-mapped}
+use Rattle.spec_base.proofs.Lanes.{lane-lawful, zipped-lawful, each-lawful, zip-length, all-zip, all-mapped}
 use Rattle.spec_rack.specs.Claims.{Claims}
-use Rattle.spec_rack.specs.RecordLayout.{barringSets, toClaims, fromClaims, claims, Tokens, tokens, words, Endpoints, endpoints, messageHeader, toMessage, fromMessage, message, tokenLanes, toCell, cellTokens, toBlock, fromBlock, block, header, blockSize, claimsOffset, claimsRoom, claimsSize, lanesSize, messageSize, headerSize, laneSize}
+use Rattle.spec_rack.specs.RecordLayout.{barringSets, toClaims, fromClaims, claims, Tokens, dirty, ownerOf, TokenBytes, toTokens, fromTokens, dirtyHasOwner, tokenBytes, byteLanes, tokens, words, Endpoints, endpoints, messageHeader, toMessage, fromMessage, message, tokenLanes, toCell, cellTokens, toBlock, fromBlock, block, header, blockSize, claimsOffset, claimsRoom, claimsSize, lanesSize, messageSize, headerSize, laneSize}
+use Rattle.spec_rack.specs.declared.Owner.{Owner}
+use Rattle.spec_rack.specs.declared.Owner.the-variants.{Away, Dirty, Clean}
 use Rattle.spec_rack.specs.declared.Message.{Message}
-use Rattle.spec_rack.specs.Rack.{Cell, Block}
+use Rattle.spec_rack.specs.Rack.{present, Cell, Block}
 
 -- ---- what each part can hold
 
 abbrev pub TokensFit : Tokens → Type 0
 TokensFit v = (v .0 < 256) × (Unit {0} × Unit {0})
+
+abbrev pub TokenBytesFit : TokenBytes → Type 0
+TokenBytesFit v = (v .0 < 256) × (Unit {0} × (Unit {0} × Unit {0}))
 
 abbrev pub WordsFit : List ℕ → Type 0
 WordsFit ws = Items (λ (w : ℕ). w < 2 ^ 32) 8 ws
@@ -57,7 +63,7 @@ unfolding message messageHeader words
 message-size = refl
 
 pub lanes-size : (n : ℕ) → tokenLanes n .size ≡ lanesSize
-unfolding tokenLanes
+unfolding tokenLanes byteLanes
 lanes-size n = refl
 
 pub claims-size : (n : ℕ) → claims n .size ≡ claimsSize
@@ -74,8 +80,37 @@ header-size = refl
 
 -- ---- laws
 
+-- an owner as two flags, and two flags that are an owner's
+
+flags-form : (o : Owner) → implies (dirty o) (present o) ≡ true
+flags-form Away = refl
+flags-form Dirty = refl
+flags-form Clean = refl
+
+owner-back : (o : Owner) → ownerOf (present o) (dirty o) ≡ o
+owner-back Away = refl
+owner-back Dirty = refl
+owner-back Clean = refl
+
+flags-back : (here mark : Bool) → implies mark here ≡ true → (present (ownerOf here mark) ≡ here) × (dirty (ownerOf here mark) ≡ mark)
+flags-back true true h = (refl, refl)
+flags-back true false h = (refl, refl)
+flags-back false true h = (refl, h)
+flags-back false false h = (refl, refl)
+
+pub token-bytes-back : (v : TokenBytes) → dirtyHasOwner v ≡ true → fromTokens (toTokens v) ≡ v
+token-bytes-back v h = let e = flags-back (v .1 .0) (v .1 .1 .1) (search flags-form) in λ i. (v .0, (e .0 i, (v .1 .1 .0, e .1 i)))
+
+pub tokens-back : (v : Tokens) → toTokens (fromTokens v) ≡ v
+tokens-back v i = (v .0, (owner-back (v .1 .0) i, v .1 .1))
+
+token-bytes-lawful : Lawful tokenBytes TokenBytesFit
+token-bytes-lawful = pair-lawful _ _ byte-lawful (pair-lawful _ _ flag-lawful (pair-lawful _ _ flag-lawful flag-lawful))
+
 pub tokens-lawful : Lawful tokens TokensFit
-tokens-lawful = pair-lawful _ _ byte-lawful (pair-lawful _ _ flag-lawful flag-lawful)
+tokens-lawful =
+    where-lawful tokenBytes dirtyHasOwner toTokens fromTokens token-bytes-lawful
+    (λ a o. (o .0, (tt, tt))) (λ b o. (o .0, (tt, (tt, tt)))) (λ b. flags-form (b .1 .0)) token-bytes-back tokens-back
 
 pub words-lawful : Lawful words WordsFit
 unfolding words
@@ -137,14 +172,23 @@ abbrev pub blockWords : ℕ → Layout (List (List ℕ))
 blockWords n = items words laneSize (suc n)
 
 module _ (n : ℕ) (h : n ≤ 15) where
-  pub flags-lawful : Lawful (zipped (lane flag (suc n)) (lane flag (suc n))) (Items (λ v. Unit {0} × Unit {0}) (suc n))
-  flags-lawful =
-      zipped-lawful (lane flag (suc n)) (lane flag (suc n)) (suc n) (lane-lawful flag flag-lawful (suc n) (suc-le-suc h)) (lane-lawful flag flag-lawful (suc n) (suc-le-suc h))
+  abbrev flagLane : Layout (List Bool)
+  flagLane = lane flag (suc n)
+
+  flag-lane : Lawful flagLane (Items (λ v. Unit {0}) (suc n))
+  flag-lane = lane-lawful flag flag-lawful (suc n) (suc-le-suc h)
+
+  byte-lanes-lawful : Lawful (byteLanes n) (Items TokenBytesFit (suc n))
+  unfolding byteLanes
+  byte-lanes-lawful =
+      zipped-lawful (lane byte (suc n)) (zipped flagLane (zipped flagLane flagLane)) (suc n) (lane-lawful byte byte-lawful (suc n) (suc-le-suc h))
+      (zipped-lawful flagLane (zipped flagLane flagLane) (suc n) flag-lane (zipped-lawful flagLane flagLane (suc n) flag-lane flag-lane))
 
   pub lanes-lawful : Lawful (tokenLanes n) (Items TokensFit (suc n))
   unfolding tokenLanes
   lanes-lawful =
-      zipped-lawful (lane byte (suc n)) (zipped (lane flag (suc n)) (lane flag (suc n))) (suc n) (lane-lawful byte byte-lawful (suc n) (suc-le-suc h)) flags-lawful
+      each-lawful (byteLanes n) dirtyHasOwner toTokens fromTokens (suc n) byte-lanes-lawful
+      (λ a o. (o .0, (tt, tt))) (λ b o. (o .0, (tt, (tt, tt)))) (λ b. flags-form (b .1 .0)) token-bytes-back tokens-back
 
   pub block-tokens-lawful : Lawful (blockTokens n) (Items TokensFit (suc n))
   block-tokens-lawful = padded-lawful room (λ k. refl) room-lawful claimsOffset (tokenLanes n) lanes-lawful (rw (lanes-size n) (omega arith))
@@ -203,7 +247,12 @@ heading-full : Full messageHeader (λ v. EndsFit (v .0) × TokensFit (v .1))
 unfolding messageHeader
 heading-full =
     full-padded zeroed (λ k. refl) zeroed-lawful 8 (pair endpoints tokens) (pair-lawful endpoints tokens ends-lawful tokens-lawful) (omega arith)
-    (full-pair endpoints tokens (full-pair _ _ full-byte (full-pair _ _ full-byte full-byte)) (full-pair _ _ full-byte (full-pair _ _ full-flag full-flag))) (full-zeroed 2)
+    (full-pair endpoints tokens (full-pair _ _ full-byte (full-pair _ _ full-byte full-byte)) tokens-full) (full-zeroed 1)
+  where
+    tokens-full : Full tokens TokensFit
+    tokens-full =
+        full-where tokenBytes toTokens fromTokens dirtyHasOwner (λ b o. (o .0, (tt, (tt, tt))))
+        (full-pair _ _ full-byte (full-pair _ _ full-flag (full-pair _ _ full-flag full-flag)))
 
 pub message-full : Full message MessageFits
 unfolding message

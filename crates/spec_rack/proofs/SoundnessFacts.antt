@@ -10,7 +10,7 @@ use Rattle.spec_base.proofs.Tests.{and-l, and-r, and-of, not-of-false, implied,
 use Rattle.spec_base.proofs.Folds.{below-at, below-of, all-every, every-all}
 use Rattle.spec_rack.proofs.Claims.{SoundClaims, claims-facts, claims-test}
 use Rattle.spec_rack.specs.declared.Message.{Message}
-use Rattle.spec_rack.specs.Rack.{Cell, Block, Rack, meshLimit, blockAt, claimsAt, held, carried, tokensOf, ownersOf}
+use Rattle.spec_rack.specs.Rack.{Cell, Block, Rack, meshLimit, present, supplied, blockAt, claimsAt, held, carried, tokensOf, ownersOf}
 use Rattle.spec_rack.specs.Soundness.{sizes, soundCell, soundMessage, soundBlock, sound}
 
 pub record SoundMessage (n b : ℕ) (m : Message) : Type 0 where
@@ -21,12 +21,12 @@ pub record SoundMessage (n b : ℕ) (m : Message) : Type 0 where
   pub apart : m .header .sender ≡ m .header .target → ⊥
   pub block : m .header .block < b
   pub token : 0 < carried m
-  pub current : m .header .owner ≡ true → m .header .«data» ≡ true
+  pub current : present (m .header .owner) ≡ true → supplied (m .header) ≡ true
 
 pub record SoundCell (x : Cell) : Type 0 where
   pub eight : length (x .words) ≡ 8
   pub token : x .valid ≡ true → 0 < held x
-  pub current : x .owner ≡ true → x .valid ≡ true
+  pub current : present (x .owner) ≡ true → x .valid ≡ true
 
 -- a block of a rack of n boards by itself
 pub record SoundShape (n : ℕ) (k : Block) : Type 0 where
@@ -55,7 +55,8 @@ message-facts n b m h =
       apart = eqb-false _ _ (not-true _ (search (and-l, and-r) depth 9));
       block = ltb-true _ _ (search (and-l, and-r) depth 9);
       token = ltb-true _ _ (search (and-l, and-r) depth 9);
-      current = implied (m .header .owner) (m .header .«data») (search (and-l, and-r) depth 9);
+      current =
+          implied (present (m .header .owner)) (supplied (m .header)) (search (and-l, and-r) depth 9);
     }
 
 message-test : (n b : ℕ) (m : Message) → SoundMessage n b m → soundMessage n b m ≡ true
@@ -69,7 +70,7 @@ cell-facts x h =
     record {
       eight = eqb-true _ _ (search (and-l, and-r));
       token = λ v. ltb-true _ _ (implied (x .valid) (ltb 0 (held x)) (search (and-l, and-r)) v);
-      current = implied (x .owner) (x .valid) (search (and-l, and-r));
+      current = implied (present (x .owner)) (x .valid) (search (and-l, and-r));
     }
 
 cell-test : (x : Cell) → SoundCell x → soundCell x ≡ true

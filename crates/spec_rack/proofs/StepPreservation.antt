@@ -8,7 +8,7 @@ use native.Mathlib.Omega.{arith}
 use borrow.Author.Tests.{ltb-false, leb-false, leb-true, eqb-false, not-false}
 use lib.ListN.{length, getD, length-set}
 use lib.Dec.{eqb, leb, ltb}
-use Rattle.spec_base.proofs.Tests.{and-l, and-r, or-l, or-r, and-not}
+use Rattle.spec_base.proofs.Tests.{differs, and-l, and-r, or-l, or-r, and-not}
 use Rattle.spec_wire.specs.declared.Refusal.{Refusal}
 use Rattle.spec_wire.specs.declared.Check.{Check}
 use Rattle.spec_wire.specs.declared.Check.the-variants.{Pass, Refuse}
@@ -23,19 +23,15 @@ use Rattle.spec_rack.specs.declared.Answer.{Answer}
 use Rattle.spec_rack.specs.Rack.{Block, Rack, meshLimit, claimsAt, cellAt}
 use Rattle.spec_rack.specs.Soundness.{sound}
 use Rattle.spec_rack.specs.Rules.{Outcome, refused, accepted, settled, check, after, answer, offRack, meshFull, pastMesh, changed, rules, stored, sent, delivered, forwarded}
-use Rattle.spec_rack.specs.FlatMemory.{Memory, Access, accessed, flat, accessOf}
+use Rattle.spec_rack.specs.FlatMemory.{Memory, memoryAfter, flat, accessOf}
 use Rattle.spec_rack.specs.Lists.{wordsOf}
 use Rattle.spec_rack.proofs.SoundnessFacts.{Sound, sound-facts, sound-test}
+use Rattle.spec_rack.proofs.OwnerLaws.{not-bare}
 use Rattle.spec_rack.proofs.BlockInvariant.{Coherent, Fits, cell-has}
 use Rattle.spec_rack.proofs.TokenConservation.{Moved, sent-keeps, delivered-keeps, forwarded-keeps, claims-keep}
 use Rattle.spec_rack.proofs.ExclusiveStore.{stored-sound, stored-coherent, stored-fits}
 
 -- ---- what an accepted step keeps
-
--- the memory after a list of accesses
-abbrev pub accessedAll : Memory → List Access → Memory
-accessedAll mem [] = mem
-accessedAll mem (a ∷ rest) = accessedAll (accessed mem a) rest
 
 -- a stored value fits 32 bits, as in every step that is read
 abbrev pub StepFits : Step → Type 0
@@ -54,7 +50,7 @@ pub record Kept (r : Rack) (t : Step) (a : Answer) (r′ : Rack) : Type 0 where
   pub tokens : r′ .tokens ≡ r .tokens
   pub count : length (r′ .blocks) ≡ length (r .blocks)
   pub word : (mem : Memory) → Coherent r mem → wordsOf a ≡ flat mem (accessOf t)
-  pub coherent : (mem : Memory) → Coherent r mem → Coherent r′ (accessedAll mem (accessOf t))
+  pub coherent : (mem : Memory) → Coherent r mem → Coherent r′ (memoryAfter mem (accessOf t))
   pub fits : StepFits t → Fits r → Fits r′
 
 -- a property of an accepted outcome
@@ -155,7 +151,7 @@ module _ (r : Rack) (s : Sound r) where
         tokens = refl;
         count = simp length-set;
         word = λ mem coh. refl;
-        coherent = stored-coherent r s c b (inN c b on) (inB c b on) enough w v;
+        coherent = stored-coherent r s c b (inN c b on) (inB c b on) enough w v (search eqb-false);
         fits = stored-fits r s c b (inN c b on) (inB c b on) enough w v;
       }
   passed (Send c b t p o d) =
@@ -171,7 +167,7 @@ module _ (r : Rack) (s : Sound r) where
       let on = or-l _ _ known in
       moved (Send c b t p o d) _ _ _ _ refl refl
       (sent-keeps r s c b t p o d (inN c b on) (inB c b on) (ltb-false _ _ (or-r (offRack r c b) _ known)) (eqb-false _ _ apart)
-      (some _ token) (ltb-false _ _ (or-l _ _ enough)) (and-not o _ (or-r (ltb (cellAt r b c .plain) p) _ enough)) (and-not o d bare)
+      (some _ token) (ltb-false _ _ (or-l _ _ enough)) (and-not o _ (or-r (ltb (cellAt r b c .plain) p) _ enough)) (search (not-bare, and-l, differs))
       (and-not d _ stale) (room full))
   passed (Deliver i) =
       let past = guard (Goal (Deliver i)) in

@@ -1,23 +1,25 @@
 -- A send and a delivery move tokens between a cell and the mesh, and none is made or lost; a claim moves none.
-use mathlib.Core.Path.{_≡_, refl, sym, ap, _∙_}
-use mathlib.Core.Bool.{Bool, true, false, not, cond, _&&_, _||_}
+use mathlib.Core.Path.{_≡_, refl, sym, ap, _∙_, subst}
+use mathlib.Core.Bool.{Bool, true, false, cond, _||_}
 use mathlib.Core.List.{List, [], _∷_, _++_}
 use Prim.Native.Nat.{ℕ, _+_, _^_, _≤_, _<_}
 use native.Mathlib.Omega.{arith}
-use borrow.Author.Tests.{ltb-true, lt-ltb}
+use borrow.Author.Tests.{ltb-true, lt-ltb, eq-eqb, eqb-true}
 use lib.ListN.{length, getD, length-set}
 use lib.Dec.{eqb, ltb}
 use Rattle.spec_base.specs.Folds.{toℕ, removeAt}
-use Rattle.spec_base.proofs.Tests.{differs, and-l, and-r, and-of, cond-of, or-keeps}
-use Rattle.spec_base.proofs.Folds.{all-at, all-snoc, all-removed, all-replicate, sum-snoc, sum-removed, sum-at, length-snoc, length-removed}
+use Rattle.spec_base.proofs.Tests.{differs, and-l, and-r, and-of, or-left, cond-of, or-keeps}
+use Rattle.spec_base.proofs.Folds.{at-set, all-at, all-snoc, all-removed, all-replicate, sum-snoc, sum-removed, sum-at, length-snoc, length-removed}
 use Rattle.spec_rack.specs.Claims.{Claims, active}
 use Rattle.spec_rack.proofs.Claims.{SoundClaims}
+use Rattle.spec_rack.specs.declared.Owner.the-variants.{Away}
 use Rattle.spec_rack.specs.declared.Message.{Message}
-use Rattle.spec_rack.specs.Rack.{Cell, Block, Rack, meshLimit, zeros, noCell, noMessage, blockAt, claimsAt, cellAt, messageAt, owners, held, carried}
+use Rattle.spec_rack.specs.Rack.{Cell, Block, Rack, meshLimit, zeros, isHome, present, clean, mayGoBare, supplied, noCell, noBlock, noMessage, blockAt, claimsAt, cellAt, messageAt, owners, held, carried}
 use Rattle.spec_rack.specs.Rules.{withCell, withClaims, withoutTokens, withTokens, message, sent, delivered, forwarded}
 use Rattle.spec_rack.specs.FlatMemory.{Memory}
 use Rattle.spec_rack.proofs.SoundnessFacts.{SoundCell, SoundMessage, SoundShape, Sound}
-use Rattle.spec_rack.proofs.BlockInvariant.{cellOwners, messageOwners, counted, not-counted, in-flight-at, Everywhere, CellHas, MessageHas, Coherent, Fit, CellFits, MessageFits, Fits, message-sound, cell-in, cell-sound, cell-is, CellBalanced, changed-sound, changed-everywhere, with-cell-sound, with-cell-everywhere}
+use Rattle.spec_rack.proofs.OwnerLaws.{NotDirty, bare-is, present-kept, clean-kept, clean-taken, owners-split, owners-taken, supplied-taken, owners-joined, present-joined, clean-joined, not-dirty-joined}
+use Rattle.spec_rack.proofs.BlockInvariant.{cellOwners, messageOwners, counted, not-counted, in-flight-at, Everywhere, CellHas, MessageHas, HomeHas, CleanCell, CleanMessage, WhereClean, where-clean-map, Coherent, Fit, CellFits, MessageFits, Fits, message-sound, cell-in, cell-sound, cell-is, CellBalanced, changed-sound, changed-everywhere, with-cell-sound, with-cell-everywhere, home-after, home-kept}
 
 -- a rack that is sound, and coherent and of words that fit where the rack before it was
 pub record Moved (r r′ : Rack) : Type 0 where
@@ -27,48 +29,43 @@ pub record Moved (r r′ : Rack) : Type 0 where
 
 -- ---- what a send takes from a cell
 
-module _ (x : Cell) (p : ℕ) (o : Bool) (enough : p ≤ x .plain) (owned : o ≡ true → x .owner ≡ true) where
-  owners-less : cellOwners (withoutTokens x p o) + toℕ o ≡ cellOwners x
-  owners-less = go (x .owner) o owned
-    where
-      go : (a t : Bool) → (t ≡ true → a ≡ true) → toℕ (a && not t) + toℕ t ≡ toℕ a
-      go true true h = refl
-      go true false h = refl
-      go false true h = differs (sym (h refl))
-      go false false h = refl
-
-  held-less : held (withoutTokens x p o) + (p + toℕ o) ≡ held x
-  held-less = omega (arith, owners-less)
+held-less : (x : Cell) (c b t p : ℕ) (o d : Bool) → p ≤ x .plain → held (withoutTokens x p o) + carried (message x c b t p o d) ≡ held x
+held-less x c b t p o d enough = omega (arith, owners-split o (x .owner))
 
 less-sound : (x : Cell) (p : ℕ) (o : Bool) → SoundCell x → SoundCell (withoutTokens x p o)
 less-sound x p o s =
     record {
       eight = s .eight;
       token = λ v. ltb-true _ _ (and-r (x .valid) (ltb 0 (held (withoutTokens x p o))) v);
-      current = λ w. and-of _ _ (s .current (and-l (x .owner) (not o) w)) (lt-ltb 0 (held (withoutTokens x p o)) (omega (arith, ap owners w)));
+      current = λ w. and-of _ _ (s .current (present-kept o (x .owner) w)) (lt-ltb 0 (held (withoutTokens x p o)) (omega (arith, ap toℕ w)));
     }
 
 -- ---- what a delivery gives to a cell
 
 module _ (x : Cell) (m : Message) where
-  more-has : (mem : Memory) (b : ℕ) → CellHas mem b x → (m .header .«data» ≡ true → m .words ≡ getD mem b []) → CellHas mem b (withTokens x m)
-  more-has mem b hx hm = go (x .valid) (m .header .«data») hx hm
+  -- the words after it: the message's where it has data, else the cell's
+  more-words : (ws : List ℕ) → (m .header .«data» ≡ true → m .words ≡ ws) → (m .header .«data» ≡ false → x .words ≡ ws) → withTokens x m .words ≡ ws
+  more-words ws hm hx = go (m .header .«data») hm hx
     where
-      go : (v d : Bool) → (v ≡ true → x .words ≡ getD mem b []) → (d ≡ true → m .words ≡ getD mem b [])
-          → (v || d) ≡ true → cond d (m .words) (x .words) ≡ getD mem b []
-      go v true f g h = g refl
-      go true false f g h = f refl
-      go false false f g h = f h
+      go : (d : Bool) → (d ≡ true → m .words ≡ ws) → (d ≡ false → x .words ≡ ws) → cond d (m .words) (x .words) ≡ ws
+      go true f g = f refl
+      go false f g = g refl
 
   -- at most one of the two has the owner
+  more-has : (mem : Memory) (b : ℕ) → CellHas mem b x → (m .header .«data» ≡ true → m .words ≡ getD mem b [])
+      → (mayGoBare (m .header .owner) (m .header .target) ≡ true → x .words ≡ getD mem b []) → CellHas mem b (withTokens x m)
+  more-has mem b hx hm hb v = more-words (getD mem b []) hm (λ e. go (x .valid) (m .header .«data») _ v hx e (search (hb, and-l)))
+    where
+      -- without data the target was valid, or the owner came bare
+      go : (u d w : Bool) → (u || (d || w)) ≡ true → (u ≡ true → x .words ≡ getD mem b []) → d ≡ false → (w ≡ true → x .words ≡ getD mem b [])
+          → x .words ≡ getD mem b []
+      go true d w h f e g = f refl
+      go false true w h f e g = differs e
+      go false false w h f e g = g h
+
   module _ (once : cellOwners x + messageOwners m ≤ 1) where
     owners-more : cellOwners (withTokens x m) ≡ cellOwners x + messageOwners m
-    owners-more = go (x .owner) (m .header .owner) once
-      where
-        go : (a t : Bool) → toℕ a + toℕ t ≤ 1 → toℕ (a || t) ≡ toℕ a + toℕ t
-        go true true h = absurd (omega arith)
-        go true false h = refl
-        go false t h = omega arith
+    owners-more = owners-joined (x .owner) (m .header .owner) (m .header .target) once
 
     held-more : held (withTokens x m) ≡ held x + carried m
     held-more = omega (arith, owners-more)
@@ -78,7 +75,9 @@ module _ (x : Cell) (m : Message) where
         record {
           eight = cond-of (λ (ws : List ℕ). length ws ≡ 8) (m .header .«data») (m .words) (x .words) (sm .eight) (sx .eight);
           token = λ v. omega (arith, held-more, sm .token);
-          current = or-keeps (x .owner) (m .header .owner) (x .valid) (m .header .«data») (sx .current) (sm .current);
+          current = λ w.
+              or-keeps (present (x .owner)) (present (m .header .owner)) (x .valid) _ (sx .current) (search (sm .current))
+              (present-joined (x .owner) (m .header .owner) (m .header .target) w);
         }
 
 -- ---- a figure f of a cell and g of a message that stays as it was in all
@@ -111,8 +110,8 @@ module _ (r : Rack) (f : Cell → ℕ) (g : Message → ℕ) where
 
 module _ (r : Rack) (s : Sound r) where
   pub sent-keeps : (c b t p : ℕ) (o d : Bool) → c ≤ r .boards → b < length (r .blocks) → t ≤ r .boards → (c ≡ t → ⊥)
-      → 0 < p + toℕ o → p ≤ cellAt r b c .plain → (o ≡ true → cellAt r b c .owner ≡ true)
-      → (o ≡ true → d ≡ true) → (d ≡ true → cellAt r b c .valid ≡ true) → length (r .mesh) < meshLimit
+      → 0 < p + toℕ o → p ≤ cellAt r b c .plain → (o ≡ true → present (cellAt r b c .owner) ≡ true)
+      → (o ≡ true → (d || mayGoBare (cellAt r b c .owner) t) ≡ true) → (d ≡ true → cellAt r b c .valid ≡ true) → length (r .mesh) < meshLimit
       → Moved r (sent r c b t p o d)
   unfolding sent
   sent-keeps c b t p o d inN inB inT apart some enough owned current valid room =
@@ -120,12 +119,14 @@ module _ (r : Rack) (s : Sound r) where
         sound =
             with-cell-sound r s b c inB inN (withoutTokens x p o) (r .mesh ++ m ∷ []) (less-sound x p o sx) (omega (arith, length-snoc (r .mesh) m))
             (all-snoc (SoundMessage (r .boards) (length (r .blocks))) (r .mesh) m (s .messages) sm)
-            (sent-balanced r held carried b c (withoutTokens x p o) m refl (held-less x p o enough owned))
-            (sent-balanced r cellOwners messageOwners b c (withoutTokens x p o) m refl (owners-less x p o enough owned));
+            (sent-balanced r held carried b c (withoutTokens x p o) m refl (held-less x c b t p o d enough))
+            (sent-balanced r cellOwners messageOwners b c (withoutTokens x p o) m refl (owners-split o (x .owner)));
         coherent = λ mem coh.
             record {
               rows = simp length-set (coh .rows);
               has = moved (CellHas mem) (MessageHas mem) (λ has v. has (and-l (x .valid) _ v)) (λ has v. rw v (has (valid v))) (coh .has);
+              home = home mem coh;
+              not-dirty = λ j. at-home (λ _ y. NotDirty (y .owner)) (λ _. cond-of NotDirty o Away (x .owner) tt) j (coh .not-dirty j);
             };
         fits =
             moved CellFits MessageFits (λ fit. fit)
@@ -137,6 +138,9 @@ module _ (r : Rack) (s : Sound r) where
 
       m : Message
       m = message x c b t p o d
+
+      r′ : Rack
+      r′ = withCell r b c (withoutTokens x p o) (r .mesh ++ m ∷ [])
 
       sx : SoundCell x
       sx = cell-sound r s b c inB inN
@@ -150,8 +154,8 @@ module _ (r : Rack) (s : Sound r) where
             target = inT;
             apart = apart;
             block = inB;
-            token = some;
-            current = current;
+            token = omega (arith, owners-taken o (x .owner) owned);
+            current = supplied-taken o d (x .owner) t current;
           }
 
       moved : (P : ℕ → Cell → Type 0) (Q : Message → Type 0) → (P b x → P b (withoutTokens x p o)) → (P b x → Q m)
@@ -160,11 +164,22 @@ module _ (r : Rack) (s : Sound r) where
           let px = cell-is r s b c inB inN P Q h in
           with-cell-everywhere r s b c inB inN (withoutTokens x p o) (r .mesh ++ m ∷ []) P Q h (f px) (all-snoc Q (r .mesh) m (h .mesh) (g px))
 
+      at-home : (G : ℕ → Cell → Type 0) → (0 ≡ c → G b x → G b (withoutTokens x p o)) → (j : ℕ) → G j (cellAt r j 0) → G j (cellAt r′ j 0)
+      at-home = home-kept r s b c inB inN (withoutTokens x p o) (r .mesh ++ m ∷ [])
+
+      -- home's words stay, and each clean owner after was one before
+      home : (mem : Memory) → Coherent r mem → WhereClean (HomeHas mem r′) r′
+      home mem coh =
+          moved (CleanCell (HomeHas mem r′)) (CleanMessage (HomeHas mem r′))
+          (λ h u. h (clean-kept o (x .owner) u)) (λ h u. h (clean-taken o (x .owner) u))
+          (where-clean-map (HomeHas mem r) (HomeHas mem r′) r (at-home (λ j y. y .words ≡ getD mem j []) (λ _ h. h)) (coh .home))
+
   pub forwarded-keeps : (c b : ℕ) → c ≤ r .boards → b < length (r .blocks) → active (claimsAt r b) ≤ r .boards → (c ≡ active (claimsAt r b) → ⊥)
       → 0 < held (cellAt r b c) → length (r .mesh) < meshLimit → Moved r (forwarded r c b)
   unfolding forwarded
   forwarded-keeps c b inN inB inT apart some room =
-      sent-keeps c b _ _ _ _ inN inB inT apart some (omega arith) (λ e. e) (cell-sound r s b c inB inN .current) (λ e. e) room
+      let current = cell-sound r s b c inB inN .current in
+      sent-keeps c b _ _ _ _ inN inB inT apart some (omega arith) (search or-left) (search or-left) (search or-left) room
 
   -- a message and its target do not both have the owner
   owner-once : (i : ℕ) → i < length (r .mesh)
@@ -196,7 +211,12 @@ module _ (r : Rack) (s : Sound r) where
             (delivered-balanced r held carried i c (withTokens x m) h (delivered-held i h))
             (delivered-balanced r cellOwners messageOwners i c (withTokens x m) h (owners-more x m once));
         coherent = λ mem coh.
-            record { rows = simp length-set (coh .rows); has = moved (CellHas mem) (MessageHas mem) (more-has x m mem b) (coh .has) };
+            record {
+              rows = simp length-set (coh .rows);
+              has = moved (CellHas mem) (MessageHas mem) (λ hx hm. more-has x m mem b hx hm (bare mem coh)) (coh .has);
+              home = home mem coh;
+              not-dirty = λ j. at-home (λ _ y. NotDirty (y .owner)) (λ z. not-dirty-joined (x .owner) (m .header .owner) c (eq-eqb c 0 (sym z))) j (coh .not-dirty j);
+            };
         fits = moved CellFits MessageFits (λ fx fm. cond-of Fit (m .header .«data») (m .words) (x .words) fm fx);
       }
     where
@@ -227,13 +247,48 @@ module _ (r : Rack) (s : Sound r) where
           with-cell-everywhere r s b c (sm .block) (sm .target) (withTokens x m) (removeAt (r .mesh) i) P Q e
           (f (cell-is r s b c (sm .block) (sm .target) P Q e) (all-at Q (r .mesh) (e .mesh) i noMessage h)) (all-removed Q (r .mesh) i (e .mesh))
 
+      r′ : Rack
+      r′ = withCell r b c (withTokens x m) (removeAt (r .mesh) i)
+
+      at-home : (G : ℕ → Cell → Type 0) → (0 ≡ c → G b x → G b (withTokens x m)) → (j : ℕ) → G j (cellAt r j 0) → G j (cellAt r′ j 0)
+      at-home = home-kept r s b c (sm .block) (sm .target) (withTokens x m) (removeAt (r .mesh) i)
+
+      message-has : (mem : Memory) → Coherent r mem → MessageHas mem m
+      message-has mem coh = all-at (MessageHas mem) (r .mesh) (coh .has .mesh) i noMessage h
+
+      -- the target of an owner that may go bare is home, which has the memory's words
+      bare : (mem : Memory) → Coherent r mem → mayGoBare (m .header .owner) c ≡ true → x .words ≡ getD mem b []
+      bare mem coh e =
+          subst (λ (k : ℕ). cellAt r b k .words ≡ getD mem b []) (sym (bare-is (m .header .owner) c e .1))
+          (all-at (CleanMessage (HomeHas mem r)) (r .mesh) (coh .home .mesh) i noMessage h (bare-is (m .header .owner) c e .0))
+
+      -- an owner that comes home has data, or it may go bare: home has the memory's words after it
+      came : (mem : Memory) → Coherent r mem → isHome c ≡ true → present (m .header .owner) ≡ true → HomeHas mem r′ b
+      came mem coh z o =
+          home-after r s b c (sm .block) (sm .target) (withTokens x m) (removeAt (r .mesh) i) b (λ y. y .words ≡ getD mem b [])
+          (λ e q. more-words x m (getD mem b []) (message-has mem coh) (λ d. bare mem coh (rw d at (sm .current o))))
+          (λ ne. absurd (ne refl (sym (eqb-true c 0 z))))
+
+      home : (mem : Memory) → Coherent r mem → WhereClean (HomeHas mem r′) r′
+      home mem coh =
+          moved (CleanCell (HomeHas mem r′)) (CleanMessage (HomeHas mem r′))
+          (λ hx hm. clean-joined (x .owner) (m .header .owner) c hx hm (came mem coh))
+          (where-clean-map (HomeHas mem r) (HomeHas mem r′) r
+          (at-home (λ j y. y .words ≡ getD mem j []) (λ _ had. more-words x m (getD mem b []) (message-has mem coh) (λ d. had))) (coh .home))
+
   pub claims-keep : (b : ℕ) (k : Claims) → b < length (r .blocks) → SoundClaims (r .boards) k → Moved r (withClaims r b k)
   claims-keep b k inB sk =
       record {
         sound =
             changed-sound r b block (r .mesh) inB s (record { width = old .width; cells = old .cells; claims = sk }) (s .few) (s .messages)
             (record { here = refl; there = λ j ne. refl }) (record { here = refl; there = λ j ne. refl });
-        coherent = λ mem coh. record { rows = simp length-set (coh .rows); has = kept (CellHas mem) (MessageHas mem) (coh .has) };
+        coherent = λ mem coh.
+            record {
+              rows = simp length-set (coh .rows);
+              has = kept (CellHas mem) (MessageHas mem) (coh .has);
+              home = home mem coh;
+              not-dirty = λ j. at-home j (λ y. NotDirty (y .owner)) (coh .not-dirty j);
+            };
         fits = kept CellFits MessageFits;
       }
     where
@@ -245,3 +300,12 @@ module _ (r : Rack) (s : Sound r) where
 
       kept : (P : ℕ → Cell → Type 0) (Q : Message → Type 0) → Everywhere P Q r → Everywhere P Q (withClaims r b k)
       kept P Q h = changed-everywhere r b block (r .mesh) inB P Q (h .cells b inB) (λ j l ne. h .cells j l) (h .mesh)
+
+      at-home : (j : ℕ) (G : Cell → Type 0) → G (cellAt r j 0) → G (cellAt (withClaims r b k) j 0)
+      at-home j G had =
+          at-set (λ y. G (getD (y .cells) 0 noCell)) (r .blocks) b j block noBlock inB (λ e. subst (λ (q : ℕ). G (cellAt r q 0)) e had) (λ ne. had)
+
+      home : (mem : Memory) → Coherent r mem → WhereClean (HomeHas mem (withClaims r b k)) (withClaims r b k)
+      home mem coh =
+          let H′ = HomeHas mem (withClaims r b k) in
+          kept (CleanCell H′) (CleanMessage H′) (where-clean-map (HomeHas mem r) H′ r (λ j. at-home j (λ y. y .words ≡ getD mem j [])) (coh .home))

@@ -24,6 +24,11 @@ abbrev pub accessed : Memory → Access → Memory
 accessed mem (load b w) = mem
 accessed mem (store b w v) = set mem b (set (getD mem b []) w v)
 
+-- the memory after a list of accesses
+abbrev pub memoryAfter : Memory → List Access → Memory
+memoryAfter mem [] = mem
+memoryAfter mem (a ∷ rest) = memoryAfter (accessed mem a) rest
+
 -- a load gives the word there
 abbrev pub given : Memory → Access → List ℕ
 given mem (load b w) = getD (getD mem b []) w 0 ∷ []

@@ -9,7 +9,7 @@ use Rattle.spec_wire.specs.Refusals.{when_refuse_else_}
 use Rattle.spec_rack.specs.declared.Letter.{Letter}
 use Rattle.spec_rack.specs.declared.Letter.the-variants.{M, O, S, I}
 use Rattle.spec_rack.specs.declared.Lettered.{Lettered}
-use Rattle.spec_rack.specs.Rack.{Cell, Rack, cellAt, held}
+use Rattle.spec_rack.specs.Rack.{Cell, Rack, present, cellAt, held}
 use Rattle.spec_rack.specs.Rules.{offRack}
 use mathlib.Core.List.{List}
 use Rattle.spec_rack.specs.RecordLayout.{get}
@@ -24,7 +24,7 @@ letterCheck r c b =
 
 -- M with T held; O with the owner and fewer; S with valid plain tokens only (valid says that some are held); otherwise I
 abbrev pub letterOf : ℕ → Cell → Letter
-letterOf t x = cond (eqb (held x) t) M (cond (x .owner) O (cond (x .valid) S I))
+letterOf t x = cond (eqb (held x) t) M (cond (present (x .owner)) O (cond (x .valid) S I))
 
 abbrev pub lettered : Check → Letter → Lettered
 lettered Pass l = Lettered.Letter l

@@ -1,11 +1,13 @@
--- Document 01, "The rack": the figures of a rack, the fresh rack, and the tokens of a block.
+-- Document 01, "The rack": the figures of a rack, the fresh rack, and the tokens of a block; document 02, No. 2: the owner's mark.
 use Prim.Native.Nat.{ℕ, _+_, _-_}
-use mathlib.Core.Bool.{Bool, true, false, cond}
+use mathlib.Core.Bool.{Bool, true, false, cond, _&&_, _||_}
 use mathlib.Core.List.{List, [], _∷_}
 use lib.ListN.{getD, replicate}
 use lib.Dec.{eqb}
 use Rattle.spec_base.specs.Folds.{toℕ, sum}
 use Rattle.spec_rack.specs.Claims.{Claims, noClaims}
+use Rattle.spec_rack.specs.declared.Owner.{Owner}
+use Rattle.spec_rack.specs.declared.Owner.the-variants.{Away, Dirty, Clean}
 use Rattle.spec_rack.specs.declared.MessageHeader.{MessageHeader}
 use Rattle.spec_rack.specs.declared.Message.{Message}
 
@@ -13,13 +15,35 @@ use Rattle.spec_rack.specs.declared.Message.{Message}
 unfoldable pub meshLimit : ℕ
 meshLimit = 64
 
--- the owner token's mark, here or not
-abbrev pub Owner : Type 0
-Owner = Bool
+-- component 0 is the home memory
+abbrev pub isHome : ℕ → Bool
+isHome c = eqb c 0
 
--- how many owner tokens a mark stands for
+-- ---- the owner token as a component or a message has it: Away, or there with its mark (document 02, No. 2), Dirty or Clean
+
+-- whether it is there
+abbrev pub present : Owner → Bool
+present Away = false
+present Dirty = true
+present Clean = true
+
+-- whether it is there and clean
+abbrev pub clean : Owner → Bool
+clean Away = false
+clean Dirty = false
+clean Clean = true
+
+-- how many owner tokens that is
 abbrev pub owners : Owner → ℕ
-owners o = toℕ o
+owners o = toℕ (present o)
+
+-- whether it may be sent to component c without data: clean, and to home
+abbrev pub mayGoBare : Owner → ℕ → Bool
+mayGoBare o c = clean o && isHome c
+
+-- whether a message brings its target current words, or a target that has them: data, or an owner that may go bare
+abbrev pub supplied : MessageHeader → Bool
+supplied h = h .«data» || mayGoBare (h .owner) (h .target)
 
 -- what a component has of a block
 pub record Cell : Type 0 where
@@ -46,14 +70,14 @@ zeros = replicate 8 0
 
 -- nothing of a block
 abbrev pub noCell : Cell
-noCell = record { plain = 0; owner = false; valid = false; words = zeros }
+noCell = record { plain = 0; owner = Away; valid = false; words = zeros }
 
 -- what stands past the ends of the lists; no step that passes its checks reads there
 abbrev pub noBlock : Block
 noBlock = record { cells = []; claims = [] }
 
 abbrev pub noHeader : MessageHeader
-noHeader = record { sender = 0; target = 0; block = 0; plain = 0; owner = false; «data» = false }
+noHeader = record { sender = 0; target = 0; block = 0; plain = 0; owner = Away; «data» = false }
 
 abbrev pub noMessage : Message
 noMessage = record { header = noHeader; words = zeros }
@@ -70,10 +94,10 @@ cellAt r b c = getD (blockAt r b .cells) c noCell
 abbrev pub messageAt : Rack → ℕ → Message
 messageAt r i = getD (r .mesh) i noMessage
 
--- ---- the fresh rack: home holds all T of each block, valid
+-- ---- the fresh rack: home holds all T of each block, valid; the owner is clean
 
 abbrev pub fullCell : ℕ → Cell
-fullCell t = record { plain = t - 1; owner = true; valid = true; words = zeros }
+fullCell t = record { plain = t - 1; owner = Clean; valid = true; words = zeros }
 
 abbrev pub freshBlock : ℕ → ℕ → Block
 freshBlock n t = record { cells = fullCell t ∷ replicate n noCell; claims = noClaims n }

@@ -15,6 +15,8 @@ use Rattle.spec_wire.specs.declared.Step.the-variants.{Load, Store, Send, Deliv
 use Rattle.spec_wire.specs.StepRecord.{stepBytes}
 use Rattle.spec_wire.specs.Readings.{listing}
 use Rattle.spec_rack.specs.Claims.{Claims, noClaims, active}
+use Rattle.spec_rack.specs.declared.Owner.{Owner}
+use Rattle.spec_rack.specs.declared.Owner.the-variants.{Away, Dirty, Clean}
 use Rattle.spec_rack.specs.declared.Message.{Message}
 use Rattle.spec_rack.specs.declared.Answer.the-variants.{Done, Word, Served}
 use Rattle.spec_rack.specs.declared.Reply.the-variants.{Accepted, Refused}
@@ -74,7 +76,11 @@ from64 ss = run (fresh 2 2 64) ss
 abbrev pub full : Rack
 full = from64 (Send 0 1 1 1 false false ∷ Deliver 0 ∷ replicate 63 (sendPlain 0 1 1) ++ Send 0 0 1 0 true true ∷ [])
 
--- and board 2 waits for both blocks
+-- the same, but board 1 has all of block 1, and has made the steps ss on it
+abbrev pub fullWith : List Step → Rack
+fullWith ss = from64 (Send 0 1 1 63 true true ∷ Deliver 0 ∷ ss ++ replicate 63 (sendPlain 0 1 1) ++ Send 0 0 1 0 true true ∷ [])
+
+-- `full`, and board 2 waits for both blocks
 abbrev pub claimedFull : Rack
 claimedFull = run full (Raise 2 0 ∷ Raise 2 1 ∷ [])
 
@@ -88,6 +94,9 @@ pub record FirstMatch : Type 0 where
   pub send-10 : met full (Send 1 0 2 0 false true ∷ Send 1 0 2 0 false false ∷ []) ≡ 10 ∷ 10 ∷ []
   pub send-11 : met full (Send 1 0 2 1 true false ∷ Send 1 0 2 1 false true ∷ Send 1 1 2 0 true false ∷ []) ≡ 11 ∷ 11 ∷ 11 ∷ []
   pub send-12 : met full (Send 0 1 1 0 true false ∷ []) ≡ 12 ∷ []
+  -- with the owner at board 1: a bare dirty one home is 12, a bare clean one 13
+  pub send-12-bare : met (fullWith (Store 1 1 0 1 ∷ [])) (Send 1 1 0 0 true false ∷ []) ≡ 12 ∷ []
+  pub send-13-bare : met (fullWith []) (Send 1 1 0 0 true false ∷ []) ≡ 13 ∷ []
   pub send-6 : met full (Send 1 1 2 1 false true ∷ []) ≡ 6 ∷ []
   pub send-13 : met full (Send 1 1 2 1 false false ∷ Send 0 1 1 1 true true ∷ []) ≡ 13 ∷ 13 ∷ []
   -- forward: 3, 18, 8, 5, 13
@@ -172,11 +181,11 @@ first w = w ∷ replicate 7 0
 abbrev pub stored : Rack
 stored = run (fresh 2 1 3) (Send 0 0 1 2 true true ∷ Deliver 0 ∷ Store 1 0 0 7 ∷ [])
 
-abbrev pub cell : ℕ → Bool → Bool → ℕ → Cell
+abbrev pub cell : ℕ → Owner → Bool → ℕ → Cell
 cell p o v w = record { plain = p; owner = o; valid = v; words = first w }
 
 -- a message of block b from c to t
-abbrev pub mail : ℕ → ℕ → ℕ → ℕ → Bool → Bool → ℕ → Message
+abbrev pub mail : ℕ → ℕ → ℕ → ℕ → Owner → Bool → ℕ → Message
 mail c t b p o d w = record { header = record { sender = c; target = t; block = b; plain = p; owner = o; «data» = d }; words = first w }
 
 -- a rack of 2 boards and one block with 3 tokens
@@ -186,12 +195,12 @@ small cells claims mesh = record { boards = 2; tokens = 3; blocks = record { cel
 -- Board 1 is valid and has 4 in word 0. Two plain tokens are on their way to it, the first with data, 5 in word 0. No list of steps leads here from
 -- a fresh rack, but the rack is sound, so a buffer may hold it.
 abbrev pub meeting : Rack
-meeting = small (noCell ∷ cell 0 true true 4 ∷ noCell ∷ []) (noClaims 2) (mail 0 1 0 1 false true 5 ∷ mail 0 1 0 1 false false 0 ∷ [])
+meeting = small (noCell ∷ cell 0 Clean true 4 ∷ noCell ∷ []) (noClaims 2) (mail 0 1 0 1 Away true 5 ∷ mail 0 1 0 1 Away false 0 ∷ [])
 
 pub record Effects : Type 0 where
   -- a fresh rack: home has all T, valid; boards have nothing; words 0, sets and mesh empty
-  pub fresh-home : cellAt two 1 0 ≡ cell 2 true true 0
-  pub fresh-boards : map (cellAt two 1) (1 ∷ 2 ∷ []) ≡ replicate 2 (cell 0 false false 0)
+  pub fresh-home : cellAt two 1 0 ≡ cell 2 Clean true 0
+  pub fresh-boards : map (cellAt two 1) (1 ∷ 2 ∷ []) ≡ replicate 2 (cell 0 Away false 0)
   pub fresh-sets : map (claimsAt two) (0 ∷ 1 ∷ []) ≡ replicate 2 (0 ∷ 0 ∷ 0 ∷ [])
   pub fresh-mesh : two .mesh ≡ []
   -- store: the word of that component and block only
@@ -199,16 +208,16 @@ pub record Effects : Type 0 where
   pub store-only : cellAt stored 0 0 .words ≡ zeros
   pub store-last : rackAnswers (fresh 2 2 3) (Send 0 1 1 2 true true ∷ Deliver 0 ∷ Store 1 1 7 9 ∷ Load 1 1 7 ∷ Load 1 1 6 ∷ []) ≡ 9 ∷ 0 ∷ []
   -- send: what is left when nothing is held; the words stay, valid goes
-  pub send-all : cellAt (run stored (Send 1 0 2 2 true true ∷ [])) 0 1 ≡ cell 0 false false 7
+  pub send-all : cellAt (run stored (Send 1 0 2 2 true true ∷ [])) 0 1 ≡ cell 0 Away false 7
   -- what is left when something is held
-  pub send-some : cellAt (run stored (Send 1 0 2 0 true true ∷ [])) 0 1 ≡ cell 2 false true 7
+  pub send-some : cellAt (run stored (Send 1 0 2 0 true true ∷ [])) 0 1 ≡ cell 2 Away true 7
   -- a message with data has the words; one without has eight times 0
   pub send-data :
       run stored (Send 1 0 2 1 false true ∷ []) .mesh
-      ≡ mail 1 2 0 1 false true 7 ∷ []
+      ≡ mail 1 2 0 1 Away true 7 ∷ []
   pub send-no-data :
       run stored (Send 1 0 2 1 false false ∷ []) .mesh
-      ≡ mail 1 2 0 1 false false 0 ∷ []
+      ≡ mail 1 2 0 1 Away false 0 ∷ []
   -- plain tokens alone with data, the owner alone with data
   pub send-accepted : met stored (Send 1 0 2 1 false true ∷ Send 1 0 2 0 true true ∷ Send 1 0 0 2 true true ∷ []) ≡ 0 ∷ 0 ∷ 0 ∷ []
   -- deliver: position 0 is the oldest; the rest keep their order
@@ -216,14 +225,14 @@ pub record Effects : Type 0 where
       map (λ i. map (λ m. m .header .plain) (run (fresh 2 1 8) (sendPlain 0 1 1 ∷ sendPlain 0 2 2 ∷ sendPlain 0 1 3 ∷ Deliver i ∷ []) .mesh)) (0 ∷ 1 ∷ 2 ∷ 3 ∷ [])
       ≡ (2 ∷ 3 ∷ []) ∷ (1 ∷ 3 ∷ []) ∷ (1 ∷ 2 ∷ []) ∷ (1 ∷ 2 ∷ 3 ∷ []) ∷ []
   -- with data, also a valid target takes the message's words; its tokens are added
-  pub deliver-data : cellAt (run meeting (Deliver 0 ∷ [])) 0 1 ≡ cell 1 true true 5
+  pub deliver-data : cellAt (run meeting (Deliver 0 ∷ [])) 0 1 ≡ cell 1 Clean true 5
   -- without data, a valid target keeps its words and stays valid; one that is not valid keeps them and stays so
-  pub deliver-no-data : cellAt (run meeting (Deliver 1 ∷ [])) 0 1 ≡ cell 1 true true 4
-  pub deliver-stale : cellAt (run stored (Send 1 0 2 2 true true ∷ Deliver 0 ∷ sendPlain 2 1 1 ∷ Deliver 0 ∷ [])) 0 1 ≡ cell 1 false false 7
+  pub deliver-no-data : cellAt (run meeting (Deliver 1 ∷ [])) 0 1 ≡ cell 1 Clean true 4
+  pub deliver-stale : cellAt (run stored (Send 1 0 2 2 true true ∷ Deliver 0 ∷ sendPlain 2 1 1 ∷ Deliver 0 ∷ [])) 0 1 ≡ cell 1 Away false 7
   -- forward: data exactly if valid, to the lowest waiting board; here board 2 has a plain token without data
   pub forward-bare :
       run (fresh 2 1 3) (sendPlain 0 2 1 ∷ Deliver 0 ∷ Raise 2 0 ∷ Raise 1 0 ∷ Forward 2 0 ∷ []) .mesh
-      ≡ mail 2 1 0 1 false false 0 ∷ []
+      ≡ mail 2 1 0 1 Away false 0 ∷ []
   -- 64 messages are the most: with 63 in flight a send and a forward are accepted, with 64 neither
   pub mesh-63 : met (run claimedFull (Deliver 0 ∷ [])) (Forward 0 1 ∷ []) ≡ 0 ∷ []
   pub mesh-63-send : met (run full (Deliver 63 ∷ [])) (Send 0 1 1 1 false false ∷ []) ≡ 0 ∷ []
@@ -270,11 +279,11 @@ pub record RaiseAndLower : Type 0 where
 
 -- home has the owner and one plain token, a plain token is in flight
 abbrev pub home : List Cell
-home = cell 1 true true 0 ∷ noCell ∷ noCell ∷ []
+home = cell 1 Clean true 0 ∷ noCell ∷ noCell ∷ []
 
 -- home has all
 abbrev pub all : List Cell
-all = cell 2 true true 0 ∷ noCell ∷ noCell ∷ []
+all = cell 2 Clean true 0 ∷ noCell ∷ noCell ∷ []
 
 -- one message, the rest at home; cells alone; sets alone
 abbrev pub soundWith : Message → Bool
@@ -292,8 +301,8 @@ crowded p more =
     record {
       boards = 2;
       tokens = 64;
-      blocks = record { cells = noCell ∷ noCell ∷ noCell ∷ []; claims = noClaims 2 } ∷ record { cells = cell p true true 0 ∷ noCell ∷ noCell ∷ []; claims = noClaims 2 } ∷ [];
-      mesh = mail 0 1 0 0 true true 0 ∷ replicate 63 (mail 0 1 0 1 false false 0) ++ more;
+      blocks = record { cells = noCell ∷ noCell ∷ noCell ∷ []; claims = noClaims 2 } ∷ record { cells = cell p Clean true 0 ∷ noCell ∷ noCell ∷ []; claims = noClaims 2 } ∷ [];
+      mesh = mail 0 1 0 0 Clean true 0 ∷ replicate 63 (mail 0 1 0 1 Away false 0) ++ more;
     }
 
 pub record Soundness : Type 0 where
@@ -308,42 +317,47 @@ pub record Soundness : Type 0 where
   pub many-tokens : sound (fresh 2 1 65) ≡ false
   -- at most 64 messages
   pub messages-64 : sound (crowded 63 []) ≡ true
-  pub messages-65 : sound (crowded 62 (mail 0 1 1 1 false false 0 ∷ [])) ≡ false
+  pub messages-65 : sound (crowded 62 (mail 0 1 1 1 Away false 0 ∷ [])) ≡ false
   -- a message: words all 0 if it has no data
-  pub no-data : soundWith (mail 0 1 0 1 false false 0) ≡ true
-  pub with-data : soundWith (mail 0 1 0 1 false true 6) ≡ true
-  pub words-without-data : soundWith (mail 0 1 0 1 false false 6) ≡ false
+  pub no-data : soundWith (mail 0 1 0 1 Away false 0) ≡ true
+  pub with-data : soundWith (mail 0 1 0 1 Away true 6) ≡ true
+  pub words-without-data : soundWith (mail 0 1 0 1 Away false 6) ≡ false
   -- a known sender
-  pub sender-N : soundWith (mail 2 1 0 1 false false 0) ≡ true
-  pub sender-unknown : soundWith (mail 3 1 0 1 false false 0) ≡ false
+  pub sender-N : soundWith (mail 2 1 0 1 Away false 0) ≡ true
+  pub sender-unknown : soundWith (mail 3 1 0 1 Away false 0) ≡ false
   -- a known and different target
-  pub target-N : soundWith (mail 0 2 0 1 false false 0) ≡ true
-  pub target-home : soundWith (mail 1 0 0 1 false false 0) ≡ true
-  pub target-unknown : soundWith (mail 0 3 0 1 false false 0) ≡ false
-  pub target-same : soundWith (mail 1 1 0 1 false false 0) ≡ false
+  pub target-N : soundWith (mail 0 2 0 1 Away false 0) ≡ true
+  pub target-home : soundWith (mail 1 0 0 1 Away false 0) ≡ true
+  pub target-unknown : soundWith (mail 0 3 0 1 Away false 0) ≡ false
+  pub target-same : soundWith (mail 1 1 0 1 Away false 0) ≡ false
   -- a known block: the tokens of block 0 are all at home here
-  pub block-unknown : sound (small all (noClaims 2) (mail 0 1 1 1 false false 0 ∷ [])) ≡ false
+  pub block-unknown : sound (small all (noClaims 2) (mail 0 1 1 1 Away false 0 ∷ [])) ≡ false
   -- at least one token
-  pub no-token : sound (small all (noClaims 2) (mail 0 1 0 0 false false 0 ∷ [])) ≡ false
-  pub no-token-with-data : sound (small all (noClaims 2) (mail 0 1 0 0 false true 0 ∷ [])) ≡ false
-  -- data if it has the owner
-  pub owner-with-data : sound (small (cell 2 false true 0 ∷ noCell ∷ noCell ∷ []) (noClaims 2) (mail 0 1 0 0 true true 0 ∷ [])) ≡ true
-  pub owner-without-data : sound (small (cell 2 false true 0 ∷ noCell ∷ noCell ∷ []) (noClaims 2) (mail 0 1 0 0 true false 0 ∷ [])) ≡ false
+  pub no-token : sound (small all (noClaims 2) (mail 0 1 0 0 Away false 0 ∷ [])) ≡ false
+  pub no-token-with-data : sound (small all (noClaims 2) (mail 0 1 0 0 Away true 0 ∷ [])) ≡ false
+  -- data if it has the owner, unless that is clean and bound for home (document 02, No. 2)
+  pub owner-with-data : sound (small (cell 2 Away true 0 ∷ noCell ∷ noCell ∷ []) (noClaims 2) (mail 0 1 0 0 Clean true 0 ∷ [])) ≡ true
+  pub owner-without-data : sound (small (cell 2 Away true 0 ∷ noCell ∷ noCell ∷ []) (noClaims 2) (mail 0 1 0 0 Clean false 0 ∷ [])) ≡ false
+  pub bare-clean-home : sound (small (noCell ∷ cell 2 Away true 0 ∷ noCell ∷ []) (noClaims 2) (mail 1 0 0 0 Clean false 0 ∷ [])) ≡ true
+  pub bare-dirty-home : sound (small (noCell ∷ cell 2 Away true 0 ∷ noCell ∷ []) (noClaims 2) (mail 1 0 0 0 Dirty false 0 ∷ [])) ≡ false
+  pub dirty-with-data : sound (small (noCell ∷ cell 2 Away true 0 ∷ noCell ∷ []) (noClaims 2) (mail 1 0 0 0 Dirty true 6 ∷ [])) ≡ true
+  -- no sentence forbids a dirty owner at home
+  pub dirty-at-home : soundCells (cell 2 Dirty true 0 ∷ noCell ∷ noCell ∷ []) ≡ true
   -- the tokens in components and mesh total T
-  pub shared : soundCells (cell 0 true true 0 ∷ cell 1 false true 0 ∷ cell 1 false false 0 ∷ []) ≡ true
-  pub one-more : soundCells (cell 3 true true 0 ∷ noCell ∷ noCell ∷ []) ≡ false
-  pub one-less : soundCells (cell 1 true true 0 ∷ noCell ∷ noCell ∷ []) ≡ false
-  pub one-more-in-flight : sound (small all (noClaims 2) (mail 0 1 0 1 false false 0 ∷ [])) ≡ false
+  pub shared : soundCells (cell 0 Clean true 0 ∷ cell 1 Away true 0 ∷ cell 1 Away false 0 ∷ []) ≡ true
+  pub one-more : soundCells (cell 3 Clean true 0 ∷ noCell ∷ noCell ∷ []) ≡ false
+  pub one-less : soundCells (cell 1 Clean true 0 ∷ noCell ∷ noCell ∷ []) ≡ false
+  pub one-more-in-flight : sound (small all (noClaims 2) (mail 0 1 0 1 Away false 0 ∷ [])) ≡ false
   -- one owner
-  pub two-owners : soundCells (cell 1 true true 0 ∷ cell 0 true true 0 ∷ noCell ∷ []) ≡ false
-  pub no-owner : soundCells (cell 3 false true 0 ∷ noCell ∷ noCell ∷ []) ≡ false
-  pub two-owners-in-flight : sound (small home (noClaims 2) (mail 0 1 0 0 true true 0 ∷ [])) ≡ false
+  pub two-owners : soundCells (cell 1 Clean true 0 ∷ cell 0 Clean true 0 ∷ noCell ∷ []) ≡ false
+  pub no-owner : soundCells (cell 3 Away true 0 ∷ noCell ∷ noCell ∷ []) ≡ false
+  pub two-owners-in-flight : sound (small home (noClaims 2) (mail 0 1 0 0 Clean true 0 ∷ [])) ≡ false
   -- valid only where a token is held
-  pub valid-without-token : soundCells (cell 2 true true 0 ∷ cell 0 false true 0 ∷ noCell ∷ []) ≡ false
+  pub valid-without-token : soundCells (cell 2 Clean true 0 ∷ cell 0 Away true 0 ∷ noCell ∷ []) ≡ false
   -- the owner's holder is valid
-  pub owner-not-valid : soundCells (cell 2 true false 0 ∷ noCell ∷ noCell ∷ []) ≡ false
+  pub owner-not-valid : soundCells (cell 2 Clean false 0 ∷ noCell ∷ noCell ∷ []) ≡ false
   -- words that were left behind are no fault
-  pub left-behind : soundCells (cell 2 true true 0 ∷ cell 0 false false 6 ∷ noCell ∷ []) ≡ true
+  pub left-behind : soundCells (cell 2 Clean true 0 ∷ cell 0 Away false 6 ∷ noCell ∷ []) ≡ true
   -- every set has boards 1 to N only
   pub waits-N : soundSets (4 ∷ 0 ∷ 0 ∷ []) ≡ true
   pub waits-0 : soundSets (1 ∷ 0 ∷ 0 ∷ []) ≡ false
@@ -368,6 +382,12 @@ joined (b ∷ bs) = b ++ joined bs
 -- the step record of a load at component 0, block 0, word 0
 abbrev pub homeLoadBytes : List ℕ
 homeLoadBytes = 0x10 ∷ 0x00 ∷ 0x0C ∷ 0x01 ∷ 0x00 ∷ 0x01 ∷ 0x00 ∷ 0x02 ∷ 0x00 ∷ 0x01 ∷ 0x00 ∷ 0x03 ∷ 0x00 ∷ 0x01 ∷ 0x00 ∷ []
+
+-- the step record of a send of board 1's two plain tokens and the owner of block 0 to home, without data
+abbrev pub bareSendBytes : List ℕ
+bareSendBytes =
+    0x12 ∷ 0x00 ∷ 0x18 ∷ 0x01 ∷ 0x00 ∷ 0x01 ∷ 0x01 ∷ 0x02 ∷ 0x00 ∷ 0x01 ∷ 0x00 ∷ 0x05 ∷ 0x00 ∷ 0x01 ∷ 0x00 ∷ 0x06 ∷ 0x00 ∷ 0x01 ∷ 0x02 ∷ 0x07 ∷ 0x00 ∷ 0x01 ∷ 0x01
+    ∷ 0x08 ∷ 0x00 ∷ 0x01 ∷ 0x00 ∷ []
 
 pub record Printed : Type 0 where
   -- "0 ok", "4 v0000002a", "5 r5", "21845 r20", each with its newline
@@ -413,6 +433,19 @@ pub record Printed : Type 0 where
       ∷ (49 ∷ 32 ∷ 118 ∷ 48 ∷ 48 ∷ 48 ∷ 48 ∷ 48 ∷ 48 ∷ 48 ∷ 48 ∷ 10 ∷ [])
       ∷ (50 ∷ 32 ∷ 111 ∷ 107 ∷ 10 ∷ [])
       ∷ (51 ∷ 32 ∷ 114 ∷ 53 ∷ 10 ∷ [])
+      ∷ [])
+  -- Home's tokens go to board 1 and come back bare, byte for byte, and home reads (document 02, No. 2): "0 ok", "1 ok", "2 d1.0", "3 ok", "4 d0.0",
+  -- "5 v00000000"
+  pub bare-home :
+      ruledText
+      (0x02 ∷ 0x01 ∷ 0x03 ∷ joined (stepBytes (Send 0 0 1 2 true true) ∷ stepBytes (Deliver 0) ∷ bareSendBytes ∷ stepBytes (Deliver 0) ∷ homeLoadBytes ∷ []))
+      ≡ joined
+      ((48 ∷ 32 ∷ 111 ∷ 107 ∷ 10 ∷ [])
+      ∷ (49 ∷ 32 ∷ 111 ∷ 107 ∷ 10 ∷ [])
+      ∷ (50 ∷ 32 ∷ 100 ∷ 49 ∷ 46 ∷ 48 ∷ 10 ∷ [])
+      ∷ (51 ∷ 32 ∷ 111 ∷ 107 ∷ 10 ∷ [])
+      ∷ (52 ∷ 32 ∷ 100 ∷ 48 ∷ 46 ∷ 48 ∷ 10 ∷ [])
+      ∷ (53 ∷ 32 ∷ 118 ∷ 48 ∷ 48 ∷ 48 ∷ 48 ∷ 48 ∷ 48 ∷ 48 ∷ 48 ∷ 10 ∷ [])
       ∷ [])
   -- a torn record costs only itself; two bytes left over are one torn step: "0 ok", "1 r1", "2 r14", "3 r1"
   pub torn-ones :

@@ -1,4 +1,4 @@
--- Document 01, "Steps" and "Refusal table": what each step of a rack does, and which refusal it meets first.
+-- Document 01, "Steps" and "Refusal table", with document 02, Nos. 1, 2 and 7: what each step of a rack does, and which refusal it meets first.
 use Prim.Native.Nat.{ℕ, _+_, _-_}
 use mathlib.Core.Bool.{Bool, not, cond, _&&_, _||_}
 use mathlib.Core.List.{List, [], _∷_, _++_}
@@ -13,12 +13,14 @@ use Rattle.spec_wire.specs.Refusals.{when_refuse_else_}
 use Rattle.spec_wire.specs.declared.Step.{Step}
 use Rattle.spec_wire.specs.declared.Step.the-variants.{Load, Store, Send, Deliver, Raise, Lower, Forward}
 use Rattle.spec_rack.specs.Claims.{Claims, active, unclaimed, raiseCheck, raised, lowerCheck, lowered}
+use Rattle.spec_rack.specs.declared.Owner.{Owner}
+use Rattle.spec_rack.specs.declared.Owner.the-variants.{Away, Dirty, Clean}
 use Rattle.spec_rack.specs.declared.Message.{Message}
 use Rattle.spec_rack.specs.declared.Answer.{Answer}
 use Rattle.spec_rack.specs.declared.Answer.the-variants.{Done, Word, Served}
 use Rattle.spec_rack.specs.declared.Reply.{Reply}
 use Rattle.spec_rack.specs.declared.Reply.the-variants.{Accepted, Refused}
-use Rattle.spec_rack.specs.Rack.{Cell, Block, Rack, meshLimit, zeros, blockAt, claimsAt, cellAt, messageAt, held, owners, fresh}
+use Rattle.spec_rack.specs.Rack.{Cell, Block, Rack, meshLimit, isHome, present, mayGoBare, supplied, zeros, blockAt, claimsAt, cellAt, messageAt, held, owners, fresh}
 use Rattle.spec_rack.specs.Soundness.{sizes}
 
 -- ---- the rack with one part of it changed: a block and the mesh, a cell and the mesh, the claims on a block
@@ -34,25 +36,38 @@ withClaims r b k = changed r b (record { cells = blockAt r b .cells; claims = k 
 
 -- ---- what the steps change
 
+-- a store makes the owner dirty (document 02, No. 2), also a store of the value that is there
+abbrev pub dirtied : Owner → Owner
+dirtied Away = Away
+dirtied Dirty = Dirty
+dirtied Clean = Dirty
+
 -- store: writes the word in that component only
 abbrev pub withWord : Cell → ℕ → ℕ → Cell
-withWord x w v = record { plain = x .plain; owner = x .owner; valid = x .valid; words = set (x .words) w v }
+withWord x w v = record { plain = x .plain; owner = dirtied (x .owner); valid = x .valid; words = set (x .words) w v }
 
 unfoldable pub stored : Rack → ℕ → ℕ → ℕ → ℕ → Rack
 stored r c b w v = withCell r b c (withWord (cellAt r b c) w v) (r .mesh)
+
+-- the owner w of a sender, where the send takes it or not: what the sender keeps, and what the message has, marked as it is
+abbrev pub keptOwner : Bool → Owner → Owner
+keptOwner o w = cond o Away w
+
+abbrev pub takenOwner : Bool → Owner → Owner
+takenOwner o w = cond o w Away
 
 -- send: takes those tokens from the component; if nothing is held afterwards, valid becomes no; the words stay
 abbrev pub withoutTokens : Cell → ℕ → Bool → Cell
 withoutTokens x p o =
     let plain = x .plain - p in
-    let owner = x .owner && not o in
+    let owner = keptOwner o (x .owner) in
     record { plain = plain; owner = owner; valid = x .valid && ltb 0 (plain + owners owner); words = x .words }
 
 -- and appends the message, with the component's words if data is yes
 abbrev pub message : Cell → ℕ → ℕ → ℕ → ℕ → Bool → Bool → Message
 message x c b t p o d =
     record {
-      header = record { sender = c; target = t; block = b; plain = p; owner = o; «data» = d };
+      header = record { sender = c; target = t; block = b; plain = p; owner = takenOwner o (x .owner); «data» = d };
       words = cond d (x .words) zeros;
     }
 
@@ -61,13 +76,20 @@ sent r c b t p o d =
     let x = cellAt r b c in
     withCell r b c (withoutTokens x p o) (r .mesh ++ message x c b t p o d ∷ [])
 
--- deliver: adds its tokens to the target; with data, the words become the message's and valid becomes yes
+-- the owner of component c after a delivery, by its own and the message's: a dirty one becomes clean at home and stays dirty at a board
+abbrev pub joined : Owner → Owner → ℕ → Owner
+joined own Away c = own
+joined own Clean c = Clean
+joined own Dirty c = cond (isHome c) Clean Dirty
+
+-- deliver: adds its tokens to the target; with data, the words become the message's and valid becomes yes; home becomes valid also by a clean owner, with
+-- the words that it has
 abbrev pub withTokens : Cell → Message → Cell
 withTokens x m =
     record {
       plain = x .plain + m .header .plain;
-      owner = x .owner || m .header .owner;
-      valid = x .valid || m .header .«data»;
+      owner = joined (x .owner) (m .header .owner) (m .header .target);
+      valid = x .valid || supplied (m .header);
       words = cond (m .header .«data») (m .words) (x .words);
     }
 
@@ -83,7 +105,7 @@ delivered r i =
 unfoldable pub forwarded : Rack → ℕ → ℕ → Rack
 forwarded r c b =
     let x = cellAt r b c in
-    sent r c b (active (claimsAt r b)) (x .plain) (x .owner) (x .valid)
+    sent r c b (active (claimsAt r b)) (x .plain) (present (x .owner)) (x .valid)
 
 -- ---- the refusal table: for each step the lines that name it, the first match deciding
 
@@ -120,8 +142,8 @@ check r (Send c b t p o d) =
     when eqb c t refuse SelfSend else
     when not (unclaimed (claimsAt r b)) refuse Claimed else
     when eqb (p + toℕ o) 0 refuse Empty else
-    when ltb (cellAt r b c .plain) p || o && not (cellAt r b c .owner) refuse NotHeld else
-    when o && not d refuse BareOwner else
+    when ltb (cellAt r b c .plain) p || o && not (present (cellAt r b c .owner)) refuse NotHeld else
+    when o && not d && not (mayGoBare (cellAt r b c .owner) t) refuse BareOwner else  -- dirty, or to a board
     when d && not (cellAt r b c .valid) refuse NoData else
     when meshFull r refuse MeshFull else
     Pass

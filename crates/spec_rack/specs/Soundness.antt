@@ -1,4 +1,4 @@
--- Document 01, "The rack": "Sound means". Each line has the paper's words beside it. First of a rack, then of the bytes in a lent buffer.
+-- Document 01, "The rack": "Sound means", with document 02, No. 2. Each line has the paper's words beside it. First of a rack, then of the bytes in a lent buffer.
 -- Lists, unlike the record's arrays, have no fixed length, so lengths are conditions as well.
 use Prim.Native.Nat.{ℕ, suc}
 use mathlib.Core.Bool.{Bool, not, _&&_}
@@ -8,7 +8,7 @@ use lib.Dec.{eqb, leb, ltb}
 use Rattle.spec_base.specs.Folds.{all, allBelow, implies}
 use Rattle.spec_rack.specs.Claims.{soundClaims}
 use Rattle.spec_rack.specs.declared.Message.{Message}
-use Rattle.spec_rack.specs.Rack.{Cell, Rack, meshLimit, blockAt, claimsAt, held, carried, tokensOf, ownersOf}
+use Rattle.spec_rack.specs.Rack.{Cell, Rack, meshLimit, present, supplied, blockAt, claimsAt, held, carried, tokensOf, ownersOf}
 use Rattle.spec_rack.specs.RecordLayout.{layoutOf, recordLength, get, blocksIn}
 
 -- N 1 to 15, B 1 to 32, T from N to 64
@@ -28,13 +28,13 @@ soundMessage n b m =
     && leb (h .target) n && not (eqb (h .sender) (h .target))  -- a known and different target,
     && ltb (h .block) b  -- a known block
     && ltb 0 (carried m)  -- and at least one token,
-    && implies (h .owner) (h .«data»)  -- and data if it has the owner
+    && implies (present (h .owner)) (supplied h)  -- and data if it has the owner, unless that is clean and bound for home
 
 abbrev pub soundCell : Cell → Bool
 soundCell x =
     eightWords (x .words)
     && implies (x .valid) (ltb 0 (held x))  -- valid only where a token is held
-    && implies (x .owner) (x .valid)  -- the owner's holder is valid
+    && implies (present (x .owner)) (x .valid)  -- the owner's holder is valid
 
 -- what is said of the sets of boards is the arbiter's
 abbrev pub soundBlock : Rack → ℕ → Bool

@@ -29,13 +29,21 @@ pub enum Lettered {
     Refused(Refusal),
 }
 
+// The owner token of a block, as a component or a message has it: away, or there with its mark. A dirty owner's block was stored to since the owner was
+// last at home.
+pub enum Owner {
+    Away,
+    Clean,
+    Dirty,
+}
+
 // What stands in front of a message's words: its ends, its block, its tokens, and whether the words are data.
 pub struct MessageHeader {
     pub sender: u8,
     pub target: u8,
     pub block: u8,
     pub plain: u8,
-    pub owner: bool,
+    pub owner: Owner,
     pub data: bool,
 }
 
@@ -70,10 +78,10 @@ pub const MESSAGE_OWNER_OFFSET: usize = 4;
 
 pub const DATA_OFFSET: usize = 5;
 
-// Two bytes that are 0.
-pub const MESSAGE_ZERO_OFFSET: usize = 6;
+pub const MESSAGE_DIRTY_OFFSET: usize = 6;
 
-pub const MESSAGE_LAST_ZERO_OFFSET: usize = 7;
+// A byte that is 0.
+pub const MESSAGE_ZERO_OFFSET: usize = 7;
 
 pub const MESSAGE_WORDS_OFFSET: usize = 8;
 
@@ -84,14 +92,16 @@ pub const MESH_ROOM: usize = 64;
 // The most messages in flight: document 01 has one limit, which is not the room of the layout.
 pub const MESH_LIMIT: u8 = 64;
 
-// A block: three lanes, the claims, the words.
+// A block: four lanes, the claims, the words.
 pub const LANE_SIZE: usize = 16;
 
 pub const OWNER_OFFSET: usize = LANE_SIZE;
 
 pub const VALID_OFFSET: usize = 2 * LANE_SIZE;
 
-pub const LANES_SIZE: usize = 3 * LANE_SIZE;
+pub const DIRTY_OFFSET: usize = 3 * LANE_SIZE;
+
+pub const LANES_SIZE: usize = 4 * LANE_SIZE;
 
 pub const CLAIMS_OFFSET: usize = 80;
 

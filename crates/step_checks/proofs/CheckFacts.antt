@@ -1,6 +1,6 @@
 -- What a check that passes tells: down the refusal table each test has failed.
 use mathlib.Core.Path.{_≡_, refl}
-use mathlib.Core.Bool.{Bool, false, _||_}
+use mathlib.Core.Bool.{Bool, true, false, _||_}
 use mathlib.Core.List.{List}
 use Prim.Native.Nat.{ℕ, _≤_, _<_}
 use native.Mathlib.Nat.{le-refl}
@@ -15,11 +15,13 @@ use Rattle.spec_wire.specs.declared.Check.the-variants.{Pass}
 use Rattle.spec_wire.specs.Refusals.{when_refuse_else_}
 use Rattle.spec_wire.proofs.RefusalTable.{past}
 use Rattle.spec_wire.specs.declared.Step.the-variants.{Store, Send, Deliver, Raise, Lower, Forward}
-use Rattle.spec_rack.specs.Rack.{meshLimit, cellAt}
+use Rattle.spec_rack.specs.Rack.{meshLimit, present, cellAt}
 use Rattle.spec_rack.specs.Rules.{check, offRack, meshFull}
 use Rattle.spec_rack.specs.RecordLayout.{get, messagesIn}
 use Rattle.record.specs.Needs.{CellInRecord, SoundRecord}
-use Rattle.spec_rack.proofs.GetPut.{mesh-is}
+use Rattle.spec_rack.proofs.GetPut.{boards-is, blocks-is, mesh-is}
+use Rattle.spec_rack.proofs.SoundRecord.{rack-sound}
+use Rattle.spec_rack.proofs.ExclusiveStore.{owner-here}
 use Rattle.step_checks.specs.Sendable.{CanSend}
 use Rattle.step_checks.proofs.RackBounds.{in-cell, on-word}
 
@@ -41,9 +43,21 @@ module _ (s : List ℕ) (ready : SoundRecord s) where
 
   -- ---- kind by kind
 
-  pub store-passed : (c b w v : ℕ) → check (get s) (Store c b w v) ≡ Pass → CellInRecord s b c × (w < 8)
+  -- who holds every token has the owner
+  pub store-passed : (c b w v : ℕ) → check (get s) (Store c b w v) ≡ Pass → CellInRecord s b c × ((w < 8) × (present (cellAt (get s) b c .owner) ≡ true))
   unfolding check
-  store-passed c b w v h = on-word s (ready .whole) c b w refl (past _ _ _ h .0)
+  store-passed c b w v h =
+      let known = past _ _ _ h in
+      let board = past _ _ _ (known .1) in
+      let all = past _ _ _ (board .1) in
+      let there = on-word s (ready .whole) c b w refl (known .0) in (
+        there .0,
+        (
+          there .1,
+          owner-here (get s) (rack-sound s (ready .sound)) c b (omega (arith, boards-is s, there .0 .component)) (omega (arith, blocks-is s, there .0 .block))
+              (ltb-false _ _ (all .0)),
+        ),
+      )
 
   pub send-passed : (c b t p : ℕ) (o d : Bool) → check (get s) (Send c b t p o d) ≡ Pass → CanSend s c b p
   unfolding check

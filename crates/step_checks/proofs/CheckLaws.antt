@@ -7,7 +7,6 @@ use mathlib.Core.Bool.{Bool, true, false, not, _||_}
 use lib.Dec.{eqb, ltb}
 use lib.ListN.{length}
 use borrow.Author.Tests.{not-true, not-false}
-use Rattle.spec_base.specs.Folds.{toℕ}
 use Rattle.spec_wire.specs.declared.Refusal.the-variants.{OffRack, Home, NoToken, NoData, Short, NoMessage}
 use Rattle.spec_wire.specs.declared.Check.{Check}
 use Rattle.spec_wire.specs.declared.Check.the-variants.{Pass, Refuse}
@@ -15,7 +14,7 @@ use Rattle.spec_wire.specs.Refusals.{when_refuse_else_}
 use Rattle.spec_wire.proofs.RefusalTable.{table}
 use Rattle.spec_wire.specs.declared.Step.the-variants.{Load, Store, Send, Deliver, Raise, Lower, Forward}
 use Rattle.spec_rack.specs.Claims.{raiseCheck, lowerCheck}
-use Rattle.spec_rack.specs.Rack.{Cell, Rack, claimsAt, cellAt, held}
+use Rattle.spec_rack.specs.Rack.{Cell, Rack, owners, claimsAt, cellAt, held}
 use Rattle.spec_rack.specs.Rules.{check, offRack}
 use Rattle.record.specs.declared.TokenState.{TokenState}
 use Rattle.record.specs.Changes.{TokenStateOf}
@@ -23,8 +22,8 @@ use Rattle.spec_base.proofs.Tests.{differs}
 use Rattle.step_checks.specs.Checked.{isPass, boardLines}
 
 -- the token state has the count of tokens that the cell holds
-pub held-is : {x : Cell} {m : TokenState} {h : ℕ} → TokenStateOf x m → h ≡ m .plain + toℕ (m .owner) → h ≡ held x
-held-is state tokens = tokens ∙ (λ i. state .plain i + toℕ (state .owner i))
+pub held-is : {x : Cell} {m : TokenState} {h : ℕ} → TokenStateOf x m → h ≡ m .plain + owners (m .owner) → h ≡ held x
+held-is state tokens = tokens ∙ (λ i. state .plain i + owners (state .owner i))
 
 -- ---- load and store
 
@@ -39,7 +38,7 @@ module _ (r : Rack) (c b w : ℕ) {off : Bool} (off-is : off ≡ (offRack r c b 
     store-off-rack v = search (table, sym off-is ∙ off-rack) depth 10
 
   module _ (on-rack : off ≡ false) where
-    module _ {m : TokenState} (state : TokenStateOf (cellAt r b c) m) {h : ℕ} (tokens : h ≡ m .plain + toℕ (m .owner)) where
+    module _ {m : TokenState} (state : TokenStateOf (cellAt r b c) m) {h : ℕ} (tokens : h ≡ m .plain + owners (m .owner)) where
       pub load-no-token : h ≡ 0 → Refuse NoToken ≡ check r (Load c b w)
       unfolding check
       load-no-token none = let none : held (cellAt r b c) ≡ 0 = sym (held-is state tokens) ∙ none in search (table, sym off-is ∙ on-rack) depth 10
@@ -63,7 +62,7 @@ module _ (r : Rack) (c b w : ℕ) {off : Bool} (off-is : off ≡ (offRack r c b 
       unfolding check
       store-home at-home = search (table, sym off-is ∙ on-rack, sym home-is ∙ at-home) depth 10
 
-      module _ (away : home ≡ false) {m : TokenState} (state : TokenStateOf (cellAt r b c) m) {h : ℕ} (tokens : h ≡ m .plain + toℕ (m .owner)) {t : ℕ} (all : r .tokens ≡ t) where
+      module _ (away : home ≡ false) {m : TokenState} (state : TokenStateOf (cellAt r b c) m) {h : ℕ} (tokens : h ≡ m .plain + owners (m .owner)) {t : ℕ} (all : r .tokens ≡ t) where
         pub store-short : h < t → Refuse Short ≡ check r (Store c b w v)
         unfolding check
         store-short short = let short : held (cellAt r b c) < r .tokens = omega (arith, held-is state tokens) in search (table, sym off-is ∙ on-rack, sym home-is ∙ away) depth 10

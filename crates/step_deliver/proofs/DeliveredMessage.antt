@@ -15,7 +15,7 @@ use Rattle.spec_rack.specs.declared.MessageHeader.{MessageHeader}
 use Rattle.spec_rack.specs.declared.Message.{Message}
 use Rattle.spec_rack.specs.declared.Answer.the-variants.{Served}
 use Rattle.spec_rack.specs.declared.Reply.the-variants.{Accepted}
-use Rattle.spec_rack.specs.Rack.{Cell, Rack, cellAt, messageAt}
+use Rattle.spec_rack.specs.Rack.{Cell, Rack, present, supplied, cellAt, messageAt}
 use Rattle.spec_rack.specs.Rules.{withCell, withTokens, delivered, check, answer}
 use Rattle.spec_rack.specs.RecordLayout.{get, put, messagesIn}
 use Rattle.spec_rack.specs.Entries.{replyToStep}
@@ -129,6 +129,11 @@ module _ (s : List ℕ) (bytes : Bytes s) (i : ℕ) (h : MessageHeader) (can : C
 
     pub few : state .plain + h .plain < 256
     few = omega (arith, sum-fits, told-before .plain, ap (λ (k : MessageHeader). k .plain) (can .header))
+
+    -- and the message is sound: its owner has data or may go bare
+    pub current : present (h .owner) ≡ true → supplied h ≡ true
+    current o =
+        ap supplied (can .header) ∙ message-sound (get s) sound i inMesh .current (sym (ap (λ (k : MessageHeader). present (k .owner)) (can .header)) ∙ o)
 
     pub tokens-filled : (sum : TokenState) → ((y : Cell) (n : Message) → TokenStateOf y state → h ≡ n .header → TokenStateOf (withTokens y n) sum)
         → (s₂ : List ℕ) → s₂ ≡ put (replaceCell (get s₁) (h .block) (h .target) (withTokenState (cellAt (get s₁) (h .block) (h .target)) sum)) s₁ → s₂ ≡ put (replaceCell (get s) (h .block) (h .target) (withTokens (cellAt (get s) (h .block) (h .target)) (messageAt (get s) i))) s

@@ -10,7 +10,7 @@ use Rattle.spec_wire.specs.declared.Refusal.the-variants.{Empty, NotHeld, BareO
 use Rattle.spec_wire.specs.declared.Check.{Check}
 use Rattle.spec_wire.specs.declared.Check.the-variants.{Pass}
 use Rattle.spec_wire.specs.Refusals.{when_refuse_else_}
-use Rattle.spec_rack.specs.Rack.{Cell}
+use Rattle.spec_rack.specs.Rack.{Cell, present, mayGoBare}
 use Rattle.spec_rack.specs.Rules.{offRack}
 use Rattle.record.specs.declared.TokenState.{TokenState}
 use Rattle.spec_rack.specs.RecordLayout.{get, boardsIn}
@@ -22,19 +22,19 @@ pub line-is : {y k l : Check} {t u : Bool} (n : Refusal) → y ≡ (when t refus
 line-is n e f g = e ∙ (λ i. when f i refuse n else g i)
 
 -- the lines over a token state are the lines over its cell
-pub marks-tell : {x : Cell} {m : TokenState} → TokenStateOf x m → (p : ℕ) (o d full : Bool)
-    → tokenLines m p o d full
+pub marks-tell : {x : Cell} {m : TokenState} → TokenStateOf x m → (t p : ℕ) (o d full : Bool)
+    → tokenLines m t p o d full
     ≡ (when eqb (p + toℕ o) 0 refuse Empty else
-    when ltb (x .plain) p || o && not (x .owner) refuse NotHeld else
-    when o && not d refuse BareOwner else
+    when ltb (x .plain) p || o && not (present (x .owner)) refuse NotHeld else
+    when o && not d && not (mayGoBare (x .owner) t) refuse BareOwner else
     when d && not (x .valid) refuse NoData else
     when full refuse MeshFull else
     Pass)
-marks-tell is p o d full =
+marks-tell is t p o d full =
     λ i.
     when eqb (p + toℕ o) 0 refuse Empty else
-    when ltb (is .plain i) p || o && not (is .owner i) refuse NotHeld else
-    when o && not d refuse BareOwner else
+    when ltb (is .plain i) p || o && not (present (is .owner i)) refuse NotHeld else
+    when o && not d && not (mayGoBare (is .owner i) t) refuse BareOwner else
     when d && not (is .valid i) refuse NoData else
     when full refuse MeshFull else
     Pass

@@ -9,8 +9,9 @@ use Rattle.spec_base.specs.Folds.{All}
 use Rattle.spec_base.proofs.Folds.{all-snoc, all-replicate, length-snoc}
 use Rattle.spec_base.specs.Number.{Bytes}
 use Rattle.spec_rack.specs.Claims.{active}
-use Rattle.spec_rack.specs.Rack.{Cell, Rack, zeros, claimsAt, cellAt}
-use Rattle.spec_rack.specs.Rules.{withoutTokens, message, sent, forwarded}
+use Rattle.spec_rack.specs.declared.Owner.{Owner}
+use Rattle.spec_rack.specs.Rack.{Cell, Rack, zeros, present, claimsAt, cellAt}
+use Rattle.spec_rack.specs.Rules.{takenOwner, withoutTokens, message, sent, forwarded}
 use Rattle.spec_base.proofs.Tests.{cond-of}
 use Rattle.record.specs.declared.TokenState.{TokenState}
 use Rattle.spec_rack.specs.RecordLayout.{get, put}
@@ -38,21 +39,29 @@ module _ (s : List ℕ) (bytes : Bytes s) (c b p : ℕ) (can : CanSend s c b p) 
         cond-of WordsFit d (cellAt (get s) b c .words) zeros (cell .1) zeros-fit,
       )
 
-  -- the message with the words that the code has for it: the component's with data, and otherwise none
-  abbrev appendedTo : List ℕ → List ℕ → Type 0
-  appendedTo s₁ ws = s₁ ≡ put (withMesh (get s) (get s .mesh ++ record { header = record { sender = c; target = t; block = b; plain = p; owner = o; «data» = d }; words = ws } ∷ [])) s
+  -- the message with the owner and the words that the code has for it: the component's with data, and otherwise none
+  abbrev appendedTo : List ℕ → Owner → List ℕ → Type 0
+  appendedTo s₁ w ws =
+      s₁ ≡ put (withMesh (get s) (get s .mesh ++ record { header = record { sender = c; target = t; block = b; plain = p; owner = w; «data» = d }; words = ws } ∷ [])) s
 
-  appended-is : (ws : List ℕ) → ws ≡ cond d (cellAt (get s) b c .words) zeros → (s₁ : List ℕ) → appendedTo s₁ ws
-      → s₁ ≡ put (withMesh (get s) (get s .mesh ++ message (cellAt (get s) b c) c b t p o d ∷ [])) s
-  appended-is ws e s₁ is = is ∙ ap (λ (v : List ℕ). put (withMesh (get s) (get s .mesh ++ record { header = record { sender = c; target = t; block = b; plain = p; owner = o; «data» = d }; words = v } ∷ [])) s) e
+  module _ (held w : Owner) (own : held ≡ cellAt (get s) b c .owner) (taken : w ≡ takenOwner o held) where
+    appended-is : (ws : List ℕ) → ws ≡ cond d (cellAt (get s) b c .words) zeros → (s₁ : List ℕ) → appendedTo s₁ w ws
+        → s₁ ≡ put (withMesh (get s) (get s .mesh ++ message (cellAt (get s) b c) c b t p o d ∷ [])) s
+    appended-is ws e s₁ is =
+        is
+        ∙ (λ i.
+        put
+        (withMesh (get s)
+        (get s .mesh ++ record { header = record { sender = c; target = t; block = b; plain = p; owner = (taken ∙ ap (takenOwner o) own) i; «data» = d }; words = e i } ∷ []))
+        s)
 
-  pub appended-data : d ≡ true → (ws : List ℕ) → ws ≡ cellAt (get s) b c .words → (s₁ : List ℕ) → appendedTo s₁ ws
-      → s₁ ≡ put (withMesh (get s) (get s .mesh ++ message (cellAt (get s) b c) c b t p o d ∷ [])) s
-  appended-data h ws e = appended-is ws (e ∙ ap (λ (u : Bool). cond u (cellAt (get s) b c .words) zeros) (sym h))
+    pub appended-data : d ≡ true → (ws : List ℕ) → ws ≡ cellAt (get s) b c .words → (s₁ : List ℕ) → appendedTo s₁ w ws
+        → s₁ ≡ put (withMesh (get s) (get s .mesh ++ message (cellAt (get s) b c) c b t p o d ∷ [])) s
+    appended-data h ws e = appended-is ws (e ∙ ap (λ (u : Bool). cond u (cellAt (get s) b c .words) zeros) (sym h))
 
-  pub appended-bare : d ≡ false → (s₁ : List ℕ) → appendedTo s₁ zeros
-      → s₁ ≡ put (withMesh (get s) (get s .mesh ++ message (cellAt (get s) b c) c b t p o d ∷ [])) s
-  appended-bare h = appended-is zeros (ap (λ (u : Bool). cond u (cellAt (get s) b c .words) zeros) (sym h))
+    pub appended-bare : d ≡ false → (s₁ : List ℕ) → appendedTo s₁ w zeros
+        → s₁ ≡ put (withMesh (get s) (get s .mesh ++ message (cellAt (get s) b c) c b t p o d ∷ [])) s
+    appended-bare h = appended-is zeros (ap (λ (u : Bool). cond u (cellAt (get s) b c .words) zeros) (sym h))
 
   module _ (s₁ : List ℕ) (appended : s₁ ≡ put (withMesh (get s) (get s .mesh ++ message (cellAt (get s) b c) c b t p o d ∷ [])) s) where
     few : length (get s .mesh ++ message (cellAt (get s) b c) c b t p o d ∷ []) ≤ 64
@@ -76,7 +85,8 @@ module _ (s : List ℕ) (bytes : Bytes s) (c b p : ℕ) (can : CanSend s c b p) 
 
 -- ---- a forward: the send of what the state tell to the active board
 
-pub forwarded-is : (s : List ℕ) (c b t : ℕ) (state : TokenState) → t ≡ active (claimsAt (get s) b) → TokenStateOf (cellAt (get s) b c) state
-    → (s₁ : List ℕ) → s₁ ≡ put (sent (get s) c b t (state .plain) (state .owner) (state .valid)) s → s₁ ≡ put (forwarded (get s) c b) s
+pub forwarded-is : (s : List ℕ) (c b t : ℕ) (state : TokenState) (o : Bool) → t ≡ active (claimsAt (get s) b) → TokenStateOf (cellAt (get s) b c) state
+    → o ≡ present (state .owner) → (s₁ : List ℕ) → s₁ ≡ put (sent (get s) c b t (state .plain) o (state .valid)) s → s₁ ≡ put (forwarded (get s) c b) s
 unfolding forwarded
-forwarded-is s c b t state e told s₁ is = is ∙ (λ i. put (sent (get s) c b (e i) (told .plain i) (told .owner i) (told .valid i)) s)
+forwarded-is s c b t state o e told here s₁ is =
+    is ∙ (λ i. put (sent (get s) c b (e i) (told .plain i) ((here ∙ ap present (told .owner)) i) (told .valid i)) s)

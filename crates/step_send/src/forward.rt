@@ -7,6 +7,7 @@ ghost use Rattle.spec_rack.specs.Entries.{replyToStep, bufferAfter};
 ghost use Rattle.record.specs.Needs.{InLayout, SoundRecord};
 use super::send::send_tokens;
 use arbiter::sets;
+use record::owner::is_present;
 use spec_rack::Answer;
 use spec_rack::Reply;
 use spec_wire::Check;
@@ -37,13 +38,15 @@ fn forward_tokens(rec: &mut [u8], component: u8, block: u8)
 {
     let target = arbiter::claims::active_at(rec, checks::claims_offset(block));
     let state = record::cells::token_state(rec, block, component);
+    let owner = state.owner;
+    let has_owner = is_present(owner);
     send_tokens(
         rec,
         component,
         block,
         target,
         state.plain,
-        state.owner,
+        has_owner,
         state.valid,
     );
 }

@@ -12,10 +12,12 @@ ghost use Rattle.step_send.specs.Lines.{tokenLines};
 use base::both;
 use base::either;
 use record::TokenState;
+use record::owner::is_present;
 use spec_rack::Answer;
 use spec_rack::BOARD_COUNT_OFFSET;
 use spec_rack::Message;
 use spec_rack::MessageHeader;
+use spec_rack::Owner;
 use spec_rack::Reply;
 use spec_wire::Check;
 use spec_wire::Refusal;
@@ -24,14 +26,26 @@ use step_checks::checks;
 use step_checks::tokens;
 
 // What a send asks of the sender's state and the mesh, once its ends and its block are known and free.
-fn token_lines(rec: &[u8], state: TokenState, plain: u8, owner: bool, data: bool) -> Check
+fn token_lines(
+    rec: &[u8],
+    state: TokenState,
+    target: u8,
+    plain: u8,
+    owner: bool,
+    data: bool,
+) -> Check
     requires { ⌜ InLayout (now rec) ⌝ }
-    ensures { λ r. ⌜ r ≡ tokenLines state plain owner «data» (meshFull (get (now (rec .entry)))) ⌝ }
+    ensures { λ r. ⌜ r ≡ tokenLines state target plain owner «data» (meshFull (get (now (rec .entry)))) ⌝ }
 {
     let full = checks::line(checks::mesh_full(rec), Refusal::MeshFull, Check::Pass);
     let stale = checks::line(both(data, !state.valid), Refusal::NoData, full);
-    let bare = checks::line(both(owner, !data), Refusal::BareOwner, stale);
-    let lacks = either(state.plain < plain, both(owner, !state.owner));
+    let held = state.owner;
+    let bare = checks::line(
+        both(both(owner, !data), !tokens::may_go_bare(held, target)),
+        Refusal::BareOwner,
+        stale,
+    );
+    let lacks = either(state.plain < plain, both(owner, !is_present(held)));
     let short = checks::line(lacks, Refusal::NotHeld, bare);
     checks::line(
         tokens::token_count(plain, owner) == 0,
@@ -56,7 +70,7 @@ fn send_check(
         return Check::Refuse(Refusal::OffRack);
     }
     let state = record::cells::token_state(rec, block, component);
-    let below = token_lines(rec, state, plain, owner, data);
+    let below = token_lines(rec, state, target, plain, owner, data);
     let claimed = checks::line(
         checks::claimed(checks::waiting_set(rec, block), component),
         Refusal::Claimed,
@@ -76,8 +90,9 @@ fn append_message(
     plain: u8,
     owner: bool,
     data: bool,
+    held: Owner,
 )
-    requires { ⌜ CanSend (now rec) component block plain ⌝ }
+    requires { ⌜ CanSend (now rec) component block plain × (held ≡ cellAt (get (now rec)) block component .owner) ⌝ }
     ensures { λ r. ⌜ now (rec .exit) ≡ put (withMesh (get (now (rec .entry))) (get (now (rec .entry)) .mesh ++ message (cellAt (get (now (rec .entry))) block component) component block target plain owner «data» ∷ [])) (now (rec .entry)) ⌝ }
 {
     let header = MessageHeader {
@@ -85,7 +100,7 @@ fn append_message(
         target,
         block,
         plain,
-        owner,
+        owner: tokens::taken_owner(owner, held),
         data,
     };
     if data {
@@ -116,7 +131,8 @@ pub fn send_tokens(
     ensures { λ r. ⌜ now (rec .exit) ≡ put (sent (get (now (rec .entry))) component block target plain owner «data») (now (rec .entry)) ⌝ }
 {
     let state = record::cells::token_state(rec, block, component);
-    append_message(rec, component, block, target, plain, owner, data);
+    let held = state.owner;
+    append_message(rec, component, block, target, plain, owner, data, held);
     tokens::keep(
         rec,
         component,

@@ -1,12 +1,17 @@
 //! Prints every figure of the records in a file, which stand there one after the other.
 //! `tests/view_compare.c` writes such a file and prints the same lines by the view in C.
 
-use hyaloneth::{Boards, View};
+use hyaloneth::{Boards, Owner, View};
 use std::fmt::Write;
 use std::process::ExitCode;
 
 fn words(words: &[u32; 8]) -> String {
     words.iter().map(|word| format!(" {word:08x}")).collect()
+}
+
+/// Whether the owner is there, and whether it is dirty.
+fn owner(owner: Owner) -> String {
+    format!("{} {}", u32::from(owner.is_present()), u32::from(owner.is_dirty()))
 }
 
 fn bits(boards: Boards) -> u32 {
@@ -19,7 +24,7 @@ fn figures(view: &View) -> Result<String, std::fmt::Error> {
     let (n, b, t) = (view.boards(), view.blocks(), view.tokens());
     writeln!(out, "record {n} {b} {t} {} {}", view.messages().len(), view.record_len())?;
     for m in view.messages() {
-        let (owner, data) = (u32::from(m.owner), u32::from(m.data));
+        let (owner, data) = (owner(m.owner), u32::from(m.data));
         let carried = words(&m.words);
         let (sender, target, block, plain) = (m.sender, m.target, m.block, m.plain);
         writeln!(out, "message {sender} {target} {block} {plain} {owner} {data}{carried}")?;
@@ -29,7 +34,7 @@ fn figures(view: &View) -> Result<String, std::fmt::Error> {
         writeln!(out, "block {block} {waiting:04x} {}", view.active(block).unwrap_or(0))?;
         for component in 0..=n {
             let cell = view.cell(component, block).ok_or(std::fmt::Error)?;
-            let (owner, valid) = (u32::from(cell.owner), u32::from(cell.valid));
+            let (owner, valid) = (owner(cell.owner), u32::from(cell.valid));
             write!(
                 out,
                 "cell {} {owner} {} {valid}{}",

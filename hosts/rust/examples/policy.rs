@@ -3,7 +3,7 @@
 //! program in C and prints the same lines for the same seed.
 
 use hyaloneth::script::records;
-use hyaloneth::{Answer, Record, Refusal, Reply, Step, View};
+use hyaloneth::{Answer, Owner, Record, Refusal, Reply, Step, View};
 use std::process::ExitCode;
 
 const ROUNDS: u32 = 3_000;
@@ -43,20 +43,19 @@ impl Dice {
 }
 
 /// A memory without components, tokens or messages: what the loads of a coherent rack give. Its
-/// counts are for the report.
+/// counts are for the report; a bare send takes the owner home without data.
+#[derive(Default)]
 struct FlatMemory {
     words: [[u32; 8]; 32],
     loads: u32,
     home_loads: u32,
     stores: u32,
+    sends: u32,
+    bare_sends: u32,
     wrong: u32,
 }
 
 impl FlatMemory {
-    fn new() -> FlatMemory {
-        FlatMemory { words: [[0; 8]; 32], loads: 0, home_loads: 0, stores: 0, wrong: 0 }
-    }
-
     /// Takes an accepted step. Its numbers are on the rack, since it was accepted.
     fn take(&mut self, step: Step, reply: Reply) {
         match (step, reply) {
@@ -71,6 +70,10 @@ impl FlatMemory {
             (Step::Store { block, word, value, .. }, _) => {
                 self.stores += 1;
                 self.words[block as usize][word as usize] = value;
+            }
+            (Step::Send { owner, data, .. }, _) => {
+                self.sends += 1;
+                self.bare_sends += u32::from(owner && !data);
             }
             _ => {}
         }
@@ -152,16 +155,28 @@ impl Turns<'_> {
         self.deliver_all(dice)
     }
 
-    /// Some boards claim a block; each gets it whole, stores, loads and lowers.
-    fn write_turn(&mut self, dice: &mut Dice, block: u32) -> Result<(), Refusal> {
+    /// A board that has the owner gives back all that it holds of a block. Home has the words already
+    /// where the owner is clean, so it goes bare.
+    fn give_back(&mut self, component: u32, block: u32) -> Result<(), Refusal> {
+        let plain = self.plain(component, block)?;
+        let data = self.owner(component, block)?.is_dirty();
+        self.step(Step::Send { component, block, target: HOME, plain, owner: true, data })?;
+        Ok(())
+    }
+
+    /// Some boards claim a block; each gets it whole, stores or only reads, and lowers. Where the
+    /// last one only read, it gives the block back.
+    fn claim_turn(&mut self, dice: &mut Dice, block: u32) -> Result<(), Refusal> {
         let boards = self.view()?.boards();
+        let mut only_read = None;
         for _ in 0..=dice.draw(3) {
             let component = 1 + dice.draw(boards);
             self.raise(component, block)?;
         }
         while let Some(component) = self.view()?.active(block) {
             self.fill(dice, component, block)?;
-            for _ in 0..=dice.draw(3) {
+            let stores = dice.draw(4);
+            for _ in 0..stores {
                 let word = dice.draw(8);
                 let value = dice.draw(1_000_000_007);
                 self.step(Step::Store { component, block, word, value })?;
@@ -173,13 +188,18 @@ impl Turns<'_> {
                 self.raise(latecomer, block)?;
             }
             self.step(Step::Lower { component, block })?;
+            only_read = (stores == 0).then_some(component);
         }
-        Ok(())
+        match only_read {
+            Some(component) => self.give_back(component, block),
+            None => Ok(()),
+        }
     }
 
     /// A board, or the tape writer at home, reads an unclaimed block. Every token here travels with
-    /// the words, so who is served with the block can read it. Messages that the reader need not
-    /// wait for stay in flight.
+    /// the words, or bare to home, which has them; so who is served with the block can read it.
+    /// Messages that the reader need not wait for stay in flight. A board that has the owner gives
+    /// the block back afterwards, unless many messages are in flight.
     fn read_turn(&mut self, dice: &mut Dice, reader: u32, block: u32) -> Result<(), Refusal> {
         if !self.is_valid(reader, block)? {
             // Without a source all tokens of the block are in flight.
@@ -202,6 +222,9 @@ impl Turns<'_> {
         for _ in 0..=dice.draw(3) {
             self.step(Step::Load { component: reader, block, word: dice.draw(8) })?;
         }
+        if reader != HOME && self.owner(reader, block)?.is_present() && self.in_flight()? < 16 {
+            self.give_back(reader, block)?;
+        }
         Ok(())
     }
 
@@ -211,6 +234,10 @@ impl Turns<'_> {
 
     fn plain(&self, component: u32, block: u32) -> Result<u32, Refusal> {
         Ok(self.view()?.cell(component, block).map_or(0, |cell| cell.plain))
+    }
+
+    fn owner(&self, component: u32, block: u32) -> Result<Owner, Refusal> {
+        Ok(self.view()?.cell(component, block).map_or(Owner::Away, |cell| cell.owner))
     }
 
     /// The component other than the reader, with data, that has the most plain tokens.
@@ -234,12 +261,13 @@ impl Turns<'_> {
 fn take_turns(seed: u64, boards: u32, blocks: u32, tokens: u32) -> Result<u32, Refusal> {
     let mut buffer = vec![0; Record::len_for(blocks)?];
     let rack = Record::open(&mut buffer, boards, blocks, tokens)?;
-    let mut turns = Turns { rack, memory: FlatMemory::new(), steps: 0, waiting: 0, barred: 0 };
+    let memory = FlatMemory::default();
+    let mut turns = Turns { rack, memory, steps: 0, waiting: 0, barred: 0 };
     let mut dice = Dice::new(seed);
     for _ in 0..ROUNDS {
         let block = dice.draw(blocks);
         match dice.draw(3) {
-            0 => turns.write_turn(&mut dice, block)?,
+            0 => turns.claim_turn(&mut dice, block)?,
             1 => {
                 let reader = 1 + dice.draw(boards);
                 turns.read_turn(&mut dice, reader, block)?;
@@ -249,11 +277,13 @@ fn take_turns(seed: u64, boards: u32, blocks: u32, tokens: u32) -> Result<u32, R
     }
     println!(
         "turns: boards {boards}, blocks {blocks}, tokens {tokens}: {} steps, {} stores, {} loads \
-         ({} at home); raises refused: {} waiting, {} barred",
+         ({} at home), {} sends ({} bare); raises refused: {} waiting, {} barred",
         turns.steps,
         turns.memory.stores,
         turns.memory.loads,
         turns.memory.home_loads,
+        turns.memory.sends,
+        turns.memory.bare_sends,
         turns.waiting,
         turns.barred
     );
@@ -319,6 +349,7 @@ fn be_foolish(seed: u64) -> Result<u32, Refusal> {
     let mut accepted = 0;
     let mut refused = [0; 21];
     let (mut loads, mut home_loads, mut stores, mut wrong) = (0, 0, 0, 0);
+    let (mut sends, mut bare_sends) = (0, 0);
     for rack_number in 0..FOOLISH_RACKS {
         // A lazy rack delivers little and claims nothing, so that its mesh becomes full.
         let lazy = rack_number % 8 == 0;
@@ -327,7 +358,7 @@ fn be_foolish(seed: u64) -> Result<u32, Refusal> {
         let tokens = if lazy { 64 } else { boards + dice.draw(3) };
         let mut buffer = vec![0; Record::len_for(blocks)?];
         let mut rack = Record::open(&mut buffer, boards, blocks, tokens)?;
-        let mut memory = FlatMemory::new();
+        let mut memory = FlatMemory::default();
         for _ in 0..FOOLISH_STEPS / LIST_STEPS {
             let mut list = Vec::new();
             for _ in 0..LIST_STEPS {
@@ -358,10 +389,12 @@ fn be_foolish(seed: u64) -> Result<u32, Refusal> {
         loads += memory.loads;
         home_loads += memory.home_loads;
         stores += memory.stores;
+        sends += memory.sends;
+        bare_sends += memory.bare_sends;
     }
     println!(
         "foolish: {FOOLISH_RACKS} racks: {accepted} steps accepted, of them {stores} stores, \
-         {loads} loads ({home_loads} at home); refused:"
+         {loads} loads ({home_loads} at home), {sends} sends ({bare_sends} bare); refused:"
     );
     for refusal in Refusal::ALL {
         let count = refused[refusal.number() as usize];
@@ -382,8 +415,8 @@ fn wrong_totals(view: &View) -> u32 {
         for (plain, owner) in
             cells.map(|c| (c.plain, c.owner)).chain(messages.map(|m| (m.plain, m.owner)))
         {
-            tokens += plain + u32::from(owner);
-            owners += u32::from(owner);
+            tokens += plain + u32::from(owner.is_present());
+            owners += u32::from(owner.is_present());
         }
         if tokens != view.tokens() || owners != 1 {
             wrong += 1;

@@ -244,6 +244,59 @@ mod tests {
     }
 
     #[test]
+    fn the_engine_packs_bare_owners() {
+        let refused = |number: u64| 0x0100_0000_0000_0000 | number;
+        let word = |word: u64| 0x0200_0000_0000_0000 | word;
+        let served = |component: u64| 0x0400_0000_0000_0000 | component << 48;
+        packs(
+            include_str!("../../traces/clean_owner.trace"),
+            &[
+                0,
+                served(1),
+                0,
+                refused(12),
+                0,
+                served(0),
+                0,
+                served(2),
+                word(7),
+                refused(12),
+                0,
+                refused(5),
+                served(0),
+                word(7),
+                0,
+                served(1),
+                word(7),
+            ],
+        );
+        packs(
+            include_str!("../../traces/bare_with_claims.trace"),
+            &[
+                0,
+                served(1),
+                0,
+                refused(9),
+                0,
+                served(2),
+                0,
+                0,
+                served(0),
+                word(0),
+                0,
+                served(1),
+                0,
+                0,
+                refused(9),
+                0,
+                served(2),
+                0,
+                refused(12),
+            ],
+        );
+    }
+
+    #[test]
     fn the_engine_packs_whom_a_deliver_served() {
         packs(
             include_str!("../../traces/served.trace"),

@@ -9,7 +9,8 @@
 //! refused.
 //!
 //! [`View`] reads the figures of a record, and [`script`] is the readable form of step records that
-//! the program `hyaloneth-trace` speaks.
+//! the program `hyaloneth-trace` speaks. The owner token of a block is clean or dirty, which the view
+//! tells too: a board that only read may give the block back without the words. [`Owner`] shows it.
 //!
 //! ```
 //! use hyaloneth::{Letter, Record, Refusal, Reply, Step};
@@ -47,4 +48,4 @@ pub use answer::{Answer, Letter, Reply};
 pub use record::Record;
 pub use refusal::Refusal;
 pub use step::Step;
-pub use view::{Boards, Cell, Message, Messages, View};
+pub use view::{Boards, Cell, Message, Messages, Owner, View};

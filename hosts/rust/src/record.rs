@@ -8,6 +8,10 @@ use crate::{Refusal, Step, View};
 /// Bytes of the buffer past the record never change. The record lives in the buffer alone: a host
 /// may store the bytes, and go on with them later by [`Record::over`].
 ///
+/// A record that was opened before owners had marks ([`Owner`](crate::Owner)) is not to be used any
+/// longer: open a new one. The marks stand where it has room, in bytes that nobody wrote. It may be
+/// refused with [`Refusal::Unsound`], or be sound with marks that are wrong.
+///
 /// ```
 /// use hyaloneth::{Record, Refusal, Reply, Step};
 ///
@@ -48,8 +52,8 @@ impl<'a> Record<'a> {
         answer::count(unsafe { ffi::hyl_record_len(blocks) })
     }
 
-    /// Opens a fresh record: home holds all tokens of each block, valid, and all words are 0. What
-    /// the buffer held before does not matter.
+    /// Opens a fresh record: home holds all tokens of each block, valid, the owners are clean, and
+    /// all words are 0. What the buffer held before does not matter.
     ///
     /// `boards` is N, 1 to 15; `blocks` is B, 1 to 32; `tokens` is T, from N to 64. Refused with
     /// [`Refusal::Size`], then with [`Refusal::ShortBuffer`]; the buffer is then as it was.

@@ -38,7 +38,7 @@ pub enum Refusal {
     Empty = 10,
     /// 11: send of more plain tokens than held, or of an owner not held.
     NotHeld = 11,
-    /// 12: send of the owner without data.
+    /// 12: send of the owner without data, where it is dirty or the target is a board.
     BareOwner = 12,
     /// 13: send or forward with 64 messages in flight.
     MeshFull = 13,

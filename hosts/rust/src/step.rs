@@ -47,7 +47,7 @@ pub enum Step {
         /// The word of the block, 0 to 7.
         word: u32,
     },
-    /// Writes a word in one component.
+    /// Writes a word in one component. The owner, which it holds, becomes dirty.
     Store {
         /// The board that stores.
         component: u32,
@@ -58,7 +58,9 @@ pub enum Step {
         /// What it becomes.
         value: u32,
     },
-    /// Takes tokens from a component and puts them into the mesh.
+    /// Takes tokens from a component and puts them into the mesh. The owner needs the words, unless
+    /// it is clean and goes home: see [`Owner`](crate::Owner). Its mark is not named, it travels as
+    /// it is.
     Send {
         /// The sender, 0 for home.
         component: u32,
@@ -74,7 +76,7 @@ pub enum Step {
         data: bool,
     },
     /// Takes a message out of the mesh and gives it to its target. The reply says which, and which
-    /// block.
+    /// block. An owner that comes home is clean there, and home is valid, also without data.
     Deliver {
         /// The message's place in the mesh, 0 the oldest.
         position: u32,

@@ -5,7 +5,7 @@ use std::fmt;
 /// The figures of a sound record, read by its written layout (`docs/RECORD.md`).
 ///
 /// ```
-/// use hyaloneth::{Record, Refusal, Step, View};
+/// use hyaloneth::{Owner, Record, Refusal, Step, View};
 ///
 /// let mut buffer = [0; Record::LONGEST];
 /// assert_eq!(View::of(&buffer).err(), Some(Refusal::Unsound));
@@ -15,7 +15,8 @@ use std::fmt;
 /// rack.step(&Step::Forward { component: 0, block: 0 })?;
 /// let view = rack.view()?;
 /// assert_eq!(view.active(0), Some(2));
-/// assert_eq!(view.messages().next().map(|m| (m.target, m.plain, m.owner)), Some((2, 2, true)));
+/// let message = view.messages().next().unwrap();
+/// assert_eq!((message.target, message.plain, message.owner), (2, 2, Owner::Clean));
 /// assert_eq!(view.cell(0, 0).map(|home| home.held()), Some(0));
 /// assert_eq!(view.cell(3, 0), None);
 /// # Ok::<(), Refusal>(())
@@ -25,13 +26,98 @@ pub struct View<'a> {
     record: &'a [u8],
 }
 
+/// The owner token of a block, as a component or a message has it: away, or there with its mark.
+///
+/// Fresh owners are clean. A store makes the owner dirty, also a store of the value that was there
+/// already. A delivery to home makes it clean. Otherwise the mark travels as it is. Where the owner
+/// is clean, home has the words of the block, so a board may send it home without data:
+///
+/// ```
+/// use hyaloneth::{Owner, Record, Refusal, Reply, Step};
+///
+/// let mut buffer = [0; Record::LONGEST];
+/// let mut rack = Record::open(&mut buffer, 2, 1, 3)?;
+/// let send = |component, target, data| {
+///     Step::Send { component, block: 0, target, plain: 2, owner: true, data }
+/// };
+/// let oldest = Step::Deliver { position: 0 };
+///
+/// // Board 1 gets the whole block from home and stores: its owner is dirty and needs the data.
+/// rack.step(&send(0, 1, true))?;
+/// rack.step(&oldest)?;
+/// rack.step(&Step::Store { component: 1, block: 0, word: 0, value: 7 })?;
+/// assert_eq!(rack.view()?.cell(1, 0).unwrap().owner, Owner::Dirty);
+/// assert_eq!(rack.step(&send(1, 0, false)), Err(Refusal::BareOwner));
+/// rack.step(&send(1, 0, true))?;
+/// rack.step(&oldest)?;
+///
+/// // Board 2 gets it with the stored word and only reads: its owner is clean and goes home bare.
+/// rack.step(&send(0, 2, true))?;
+/// rack.step(&oldest)?;
+/// assert_eq!(rack.step(&Step::Load { component: 2, block: 0, word: 0 }), Ok(Reply::Word(7)));
+/// assert_eq!(rack.view()?.cell(2, 0).unwrap().owner, Owner::Clean);
+/// assert_eq!(rack.step(&send(2, 0, false)), Ok(Reply::Done));
+/// rack.step(&oldest)?;
+///
+/// // Home is valid with the words that it had.
+/// assert_eq!(rack.step(&Step::Load { component: 0, block: 0, word: 0 }), Ok(Reply::Word(7)));
+/// # Ok::<(), Refusal>(())
+/// ```
+#[derive(Clone, Copy, Debug, PartialEq, Eq, Hash)]
+pub enum Owner {
+    /// The owner is elsewhere.
+    Away,
+    /// The owner is here, and a store was made since it was last at home.
+    Dirty,
+    /// The owner is here, and no store was made since it was last at home.
+    Clean,
+}
+
+impl Owner {
+    /// Whether the owner is here, clean or dirty.
+    ///
+    /// ```
+    /// use hyaloneth::Owner;
+    ///
+    /// assert!(Owner::Clean.is_present() && Owner::Dirty.is_present());
+    /// assert!(!Owner::Away.is_present());
+    /// ```
+    pub fn is_present(self) -> bool {
+        self != Owner::Away
+    }
+
+    /// Whether the owner is here and clean: a board may send it home without data.
+    ///
+    /// ```
+    /// use hyaloneth::Owner;
+    ///
+    /// assert!(Owner::Clean.is_clean());
+    /// assert!(!Owner::Dirty.is_clean() && !Owner::Away.is_clean());
+    /// ```
+    pub fn is_clean(self) -> bool {
+        self == Owner::Clean
+    }
+
+    /// Whether the owner is here and dirty.
+    ///
+    /// ```
+    /// use hyaloneth::Owner;
+    ///
+    /// assert!(Owner::Dirty.is_dirty());
+    /// assert!(!Owner::Clean.is_dirty() && !Owner::Away.is_dirty());
+    /// ```
+    pub fn is_dirty(self) -> bool {
+        self == Owner::Dirty
+    }
+}
+
 /// What a component has of a block.
 #[derive(Clone, Copy, Debug, PartialEq, Eq, Hash)]
 pub struct Cell {
     /// How many plain tokens it holds.
     pub plain: u32,
-    /// Whether it holds the owner.
-    pub owner: bool,
+    /// Whether it holds the owner, and the owner's mark.
+    pub owner: Owner,
     /// Whether its words are valid. A load of them is answered exactly then, at home too.
     pub valid: bool,
     /// Its words, which stay when the tokens leave.
@@ -41,7 +127,7 @@ pub struct Cell {
 impl Cell {
     /// The tokens held: plain plus owner.
     pub fn held(&self) -> u32 {
-        self.plain + u32::from(self.owner)
+        self.plain + u32::from(self.owner.is_present())
     }
 }
 
@@ -56,9 +142,10 @@ pub struct Message {
     pub block: u32,
     /// How many plain tokens it carries.
     pub plain: u32,
-    /// Whether it carries the owner.
-    pub owner: bool,
-    /// Whether it carries the words.
+    /// Whether it carries the owner, and the owner's mark.
+    pub owner: Owner,
+    /// Whether it carries the words. A message with the owner does, unless the owner is clean and
+    /// goes home.
     pub data: bool,
     /// The words, all 0 without data.
     pub words: [u32; 8],
@@ -127,6 +214,7 @@ const MESSAGE_BLOCK: usize = 2;
 const MESSAGE_PLAIN: usize = 3;
 const MESSAGE_OWNER: usize = 4;
 const MESSAGE_DATA: usize = 5;
+const MESSAGE_DIRTY: usize = 6;
 const MESSAGE_WORDS: usize = 8;
 
 // The blocks; then, in one, where a figure of component 0 stands. Those of the next components
@@ -136,6 +224,7 @@ const BLOCK_SIZE: usize = 632;
 const PLAIN: usize = 0;
 const OWNER: usize = 16;
 const VALID: usize = 32;
+const DIRTY: usize = 48;
 const BARRING_SETS: usize = 80;
 const WORDS: usize = 120;
 
@@ -195,7 +284,7 @@ impl<'a> View<'a> {
         let (at, component) = (self.block_at(block)?, component as usize);
         Some(Cell {
             plain: self.byte(at + PLAIN + component),
-            owner: self.byte(at + OWNER + component) != 0,
+            owner: owner(self.byte(at + OWNER + component), self.byte(at + DIRTY + component)),
             valid: self.byte(at + VALID + component) != 0,
             words: words(&self.record[at + WORDS + WORDS_SIZE * component..]),
         })
@@ -254,7 +343,7 @@ impl Iterator for Messages<'_> {
             target: figure(MESSAGE_TARGET),
             block: figure(MESSAGE_BLOCK),
             plain: figure(MESSAGE_PLAIN),
-            owner: figure(MESSAGE_OWNER) != 0,
+            owner: owner(figure(MESSAGE_OWNER), figure(MESSAGE_DIRTY)),
             data: figure(MESSAGE_DATA) != 0,
             words: words(&message[MESSAGE_WORDS..]),
         })
@@ -266,6 +355,15 @@ impl Iterator for Messages<'_> {
 }
 
 impl ExactSizeIterator for Messages<'_> {}
+
+/// The owner that its byte and the mark's byte tell.
+fn owner(present: u32, dirty: u32) -> Owner {
+    match (present, dirty) {
+        (0, _) => Owner::Away,
+        (_, 0) => Owner::Clean,
+        _ => Owner::Dirty,
+    }
+}
 
 /// The eight words at the front of these bytes.
 fn words(bytes: &[u8]) -> [u32; 8] {
@@ -306,12 +404,15 @@ mod tests {
             block + PLAIN,
             block + OWNER,
             block + VALID,
+            block + DIRTY,
+            block + DIRTY + 1,
             block + WAITING_SET,
             block + BARRING_SETS + SET_SIZE,
             // What is 0 in every sound record: figures above N, and home's place among the sets.
             block + PLAIN + above,
             block + OWNER + above,
             block + VALID + above,
+            block + DIRTY + above,
             block + BARRING_SETS + SET_SIZE * above,
             block + BARRING_SETS,
         ];
@@ -331,7 +432,7 @@ mod tests {
         const PLACES: usize = 16;
         let block = block_at(0);
         let room: Vec<usize> = (MESSAGE_COUNT + 1..MESSAGES)
-            .chain(block + VALID + PLACES..block + BARRING_SETS)
+            .chain(block + DIRTY + PLACES..block + BARRING_SETS)
             .chain(block + WAITING_SET + SET_SIZE..block + WORDS)
             .chain(block + WORDS + WORDS_SIZE * 3..block_at(1))
             .collect();

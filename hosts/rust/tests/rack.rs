@@ -1,10 +1,10 @@
-//! The examples of document 01, loads at home, and the edges of the wrapper, over the proved
-//! archives.
+//! The examples of document 01, loads at home, bare owners, and the edges of the wrapper, over the
+//! proved archives.
 
 use hyaloneth::script::reply_text;
 use hyaloneth::Refusal::*;
 use hyaloneth::Step::*;
-use hyaloneth::{Answer, Letter, Record, Refusal, Reply, Step, View};
+use hyaloneth::{Answer, Letter, Owner, Record, Refusal, Reply, Step, View};
 
 /// A rack that owns its buffer; unless said, N = 2, B = 1, T = 3.
 struct Rack(Vec<u8>);
@@ -57,6 +57,11 @@ impl Rack {
 
     fn loaded(&mut self, load: Step, word: u32) {
         self.unchanged(load, Ok(Reply::Word(word)));
+    }
+
+    /// What a component has of block 0's owner.
+    fn owner(&mut self, component: u32) -> Owner {
+        self.record().view().unwrap().cell(component, 0).unwrap().owner
     }
 
     fn letter(&mut self, board: u32) -> Result<Letter, Refusal> {
@@ -281,6 +286,109 @@ fn a_load_at_home_gives_the_words_that_came_home() {
 }
 
 #[test]
+fn a_store_makes_the_owner_dirty_and_a_delivery_to_home_clean() {
+    let mut rack = Rack::new();
+    assert_eq!(rack.owner(0), Owner::Clean);
+    rack.done(send(0, 1, 2, true, true));
+    rack.served(OLDEST, 1);
+    assert_eq!((rack.owner(0), rack.owner(1)), (Owner::Away, Owner::Clean));
+    // The value that is there already, at any word.
+    rack.done(Store { component: 1, block: 0, word: 7, value: 0 });
+    assert_eq!(rack.owner(1), Owner::Dirty);
+    rack.refused(send(1, 0, 2, true, false), BareOwner);
+    // To a board and back the mark stays; loads leave it too.
+    rack.done(send(1, 2, 0, true, true));
+    rack.served(OLDEST, 2);
+    assert_eq!((rack.owner(1), rack.owner(2)), (Owner::Away, Owner::Dirty));
+    rack.loaded(load(2), 0);
+    rack.refused(send(2, 0, 0, true, false), BareOwner);
+    rack.done(send(2, 0, 0, true, true));
+    rack.served(OLDEST, 0);
+    assert_eq!(rack.owner(0), Owner::Clean);
+    // Home gives it on clean, and it may come back bare.
+    rack.done(send(0, 2, 0, true, true));
+    rack.served(OLDEST, 2);
+    rack.done(send(2, 0, 0, true, false));
+    rack.served(OLDEST, 0);
+    assert_eq!(rack.owner(0), Owner::Clean);
+}
+
+#[test]
+fn a_refused_store_leaves_the_owner_clean() {
+    let mut rack = w2();
+    rack.refused(Store { component: 1, block: 0, word: 8, value: 1 }, OffRack);
+    rack.done(send(1, 2, 1, false, true));
+    rack.refused(store(1), Short);
+    assert_eq!(rack.owner(1), Owner::Clean);
+    rack.done(send(1, 0, 1, true, false));
+}
+
+#[test]
+fn a_bare_owner_is_refused_in_the_order_of_the_table() {
+    let mut rack = w2();
+    rack.refused(send(1, 3, 0, true, false), OffRack);
+    rack.refused(send(1, 1, 0, true, false), SelfTarget);
+    rack.refused(send(2, 0, 0, true, false), NotHeld);
+    rack.refused(send(1, 0, 3, true, false), NotHeld);
+    rack.refused(send(1, 2, 0, true, false), BareOwner);
+    rack.done(raise(1));
+    rack.refused(send(1, 0, 2, true, false), Claimed);
+    rack.refused(send(1, 2, 2, true, false), Claimed);
+    rack.done(lower(1));
+    rack.done(store(1));
+    rack.refused(send(1, 0, 3, true, false), NotHeld);
+    rack.refused(send(1, 0, 2, true, false), BareOwner);
+
+    // With a full mesh: 12 before 13.
+    let mut rack = Rack::of(2, 2, 64);
+    let block = 1;
+    rack.done(Send { component: 0, block, target: 1, plain: 63, owner: true, data: true });
+    assert_eq!(rack.step(OLDEST), Ok(Reply::Served { component: 1, block }));
+    for _ in 0..63 {
+        rack.done(send(0, 1, 1, false, false));
+    }
+    rack.done(send(0, 1, 0, true, true));
+    let bare = |target| Send { component: 1, block, target, plain: 0, owner: true, data: false };
+    rack.refused(bare(2), BareOwner);
+    rack.refused(bare(0), MeshFull);
+    rack.done(Store { component: 1, block, word: 0, value: 1 });
+    rack.refused(bare(0), BareOwner);
+}
+
+#[test]
+fn a_bare_owner_goes_beside_other_messages() {
+    let mut rack = w2();
+    rack.done(send(1, 2, 1, false, true));
+    rack.done(send(1, 0, 1, true, false));
+    // The younger one first: home is valid while board 2 waits for its token.
+    rack.served(Deliver { position: 1 }, 0);
+    rack.loaded(load(0), 0);
+    rack.served(OLDEST, 2);
+    rack.loaded(load(2), 0);
+    rack.refused(load(1), NoToken);
+}
+
+/// A send names the owner, yes or no; the mark is no field.
+#[test]
+fn the_bytes_of_a_bare_send() {
+    let bytes = [
+        0x12, 0x00, 0x18, 0x01, 0x00, 0x01, 0x02, 0x02, 0x00, 0x01, 0x00, 0x05, 0x00, 0x01, 0x00,
+        0x06, 0x00, 0x01, 0x02, 0x07, 0x00, 0x01, 0x01, 0x08, 0x00, 0x01, 0x00,
+    ];
+    let step = send(2, 0, 2, true, false);
+    let mut out = [0xee; 29];
+    assert_eq!(step.write(&mut out, 1), Ok(27));
+    assert_eq!((out[0], &out[1..28], out[28]), (0xee, &bytes[..], 0xee));
+    assert_eq!(Step::from_bytes(&bytes), Ok(step));
+
+    let mut rack = Rack::new();
+    rack.done(send(0, 2, 2, true, true));
+    rack.served(OLDEST, 2);
+    assert_eq!(rack.record().step_bytes(&bytes), Ok(Reply::Done));
+    rack.served(OLDEST, 0);
+}
+
+#[test]
 fn a_delivery_keeps_the_order_of_the_rest() {
     let mut rack = Rack::of(2, 1, 64);
     for plain in 1..=5 {
@@ -448,13 +556,15 @@ fn the_view_has_the_figures_of_a_rack() {
     let view = record.view().unwrap();
     assert_eq!((view.boards(), view.blocks(), view.tokens()), (3, 2, 9));
     let cell = view.cell(3, block).unwrap();
-    assert_eq!((cell.plain, cell.owner, cell.valid, cell.held()), (3, true, true, 4));
+    assert_eq!((cell.plain, cell.owner, cell.valid, cell.held()), (3, Owner::Dirty, true, 4));
     assert_eq!(cell.words, [0, 0, 0, 0, 0, 0, 0, 0x0102_0304]);
     assert_eq!(view.letter(3, block), Some(Letter::Owned));
     assert_eq!(view.letter(0, block), None);
     let message = view.messages().next().unwrap();
     assert_eq!((message.sender, message.target, message.block, message.plain), (3, 2, 1, 5));
-    assert_eq!((message.owner, message.data, message.words), (false, true, cell.words));
+    assert_eq!((message.owner, message.data, message.words), (Owner::Away, true, cell.words));
+    assert_eq!(view.cell(0, 0).unwrap().owner, Owner::Clean);
+    assert_eq!(view.cell(0, 0).unwrap().held(), 9);
     assert_eq!(view.cell(4, 0), None);
     assert_eq!(view.cell(0, 2), None);
     assert_eq!(view.waiting(2), None);

@@ -5,16 +5,16 @@
 //! in its high half, starting at what makes a sound block's sum 0.
 
 use crate::layout::{
-    block_offset, length, message_offset, BARRING, BLOCKS, BLOCKS_OFFSET, BLOCK_SIZE, BOARDS, COUNT, DATA, HEADER_SIZE, MESH_ROOM,
-    MESSAGE_BLOCK, MESSAGE_OWNER, MESSAGE_PLAIN, MESSAGE_SIZE, MESSAGE_WORDS, MESSAGE_ZEROS, OWNER, PLACES, PLAIN, SENDER, SET_SIZE,
+    block_offset, length, message_offset, BARRING, BLOCKS, BLOCKS_OFFSET, BLOCK_SIZE, BOARDS, COUNT, DATA, DIRTY, HEADER_SIZE, MESH_ROOM,
+    MESSAGE_BLOCK, MESSAGE_DIRTY, MESSAGE_OWNER, MESSAGE_PLAIN, MESSAGE_SIZE, MESSAGE_WORDS, OWNER, PLACES, PLAIN, SENDER, SET_SIZE,
     TARGET, TOKENS, VALID, WAITING, WORDS, WORDS_SIZE,
 };
 use core::arch::x86_64::{
     __m128i, _mm_add_epi32, _mm_add_epi64, _mm_and_si128, _mm_andnot_si128, _mm_castpd_si128, _mm_castsi128_pd, _mm_cmpeq_epi16,
-    _mm_cmpeq_epi8, _mm_cmpgt_epi32, _mm_cvtsi128_si32, _mm_load_si128, _mm_loadh_pd, _mm_loadl_epi64, _mm_loadu_si128, _mm_min_epu8,
-    _mm_movemask_epi8, _mm_or_si128, _mm_packs_epi16, _mm_sad_epu8, _mm_set1_epi16, _mm_set1_epi32, _mm_set1_epi64x, _mm_set1_epi8,
-    _mm_setzero_si128, _mm_shuffle_epi32, _mm_slli_epi64, _mm_srli_epi64, _mm_store_si128, _mm_storeu_si128, _mm_subs_epu8,
-    _mm_unpackhi_epi64, _mm_unpackhi_epi8, _mm_unpacklo_epi64, _mm_unpacklo_epi8,
+    _mm_cmpeq_epi8, _mm_cmpgt_epi32, _mm_cvtsi128_si32, _mm_load_si128, _mm_loadh_pd, _mm_loadl_epi64, _mm_loadu_si128, _mm_madd_epi16,
+    _mm_min_epu8, _mm_movemask_epi8, _mm_or_si128, _mm_packs_epi16, _mm_sad_epu8, _mm_set1_epi16, _mm_set1_epi32, _mm_set1_epi64x,
+    _mm_set1_epi8, _mm_setzero_si128, _mm_shuffle_epi32, _mm_slli_epi64, _mm_srli_epi64, _mm_store_si128, _mm_storeu_si128, _mm_sub_epi8,
+    _mm_subs_epu8, _mm_unpackhi_epi64, _mm_unpackhi_epi8, _mm_unpacklo_epi64, _mm_unpacklo_epi8,
 };
 use core::hint::select_unpredictable;
 use core::mem::MaybeUninit;
@@ -184,11 +184,10 @@ const fn bit(board: u8) -> u16 {
 
 /// What was seen in the blocks so far.
 struct Seen {
-    /// 1 at the places of components 0 to N.
-    known: __m128i,
-    /// A place that is not 0: an owner without valid, valid without a token, or a mark that is none.
+    /// A place that is not 0: a dirty mark without an owner, an owner without valid, or valid without a token.
     marks: __m128i,
     plain: __m128i,
+    valid: __m128i,
     /// In its low half, as the bytes stand.
     waiting: u32,
     /// A place that is not 0: a barring set outside the waiting set.
@@ -202,12 +201,14 @@ impl Seen {
     /// The tokens of a block in two sums, one for each half of its places.
     #[inline(always)]
     unsafe fn tokens(&mut self, p: *const u8) -> __m128i {
-        let (plain, owner, valid) = (load(p.add(PLAIN)), load(p.add(OWNER)), load(p.add(VALID)));
-        // owner <= valid <= 1 where a token is held by a known component, else 0
-        let most = _mm_min_epu8(_mm_or_si128(plain, owner), self.known);
-        self.marks = _mm_or_si128(self.marks, _mm_subs_epu8(owner, valid));
-        self.marks = _mm_or_si128(self.marks, _mm_subs_epu8(valid, most));
+        let (plain, owner, valid, dirty) = (load(p.add(PLAIN)), load(p.add(OWNER)), load(p.add(VALID)), load(p.add(DIRTY)));
+        // Where the sums are right, there is one owner in the block and no plain count above 63; valid is 0 or 1 by the look at all of
+        // them. So valid less owner is 255 for an owner without valid, which no plain count reaches, and 1 for valid without the owner,
+        // which any does.
+        self.marks = _mm_or_si128(self.marks, _mm_subs_epu8(_mm_sub_epi8(valid, owner), plain));
+        self.marks = _mm_or_si128(self.marks, _mm_subs_epu8(dirty, owner));
         self.plain = _mm_or_si128(self.plain, plain);
+        self.valid = _mm_or_si128(self.valid, valid);
         // Two bytes of room behind the set are loaded with it: then the load is part of the instruction that uses it.
         self.waiting |= p.add(WAITING).cast::<u32>().read_unaligned();
         let none = _mm_setzero_si128();
@@ -259,8 +260,7 @@ unsafe fn sound(rec: *const u8, len: usize) -> bool {
         return false;
     }
     let none = _mm_setzero_si128();
-    let known = _mm_load_si128((&raw const KNOWN[usize::from(n)]).cast());
-    let mut seen = Seen { known, marks: none, plain: none, waiting: 0, outside: none, barred: 0, both: 0 };
+    let mut seen = Seen { marks: none, plain: none, valid: none, waiting: 0, outside: none, barred: 0, both: 0 };
     let mut p = rec.add(BLOCKS_OFFSET);
     let mut sum = sums.cast_const();
     let mut bad = none;
@@ -291,8 +291,10 @@ unsafe fn sound(rec: *const u8, len: usize) -> bool {
         sum = sum.add(1);
         p = p.add(BLOCK_SIZE);
     }
+    let known = _mm_load_si128((&raw const KNOWN[usize::from(n)]).cast());
     let above = _mm_load_si128((&raw const ABOVE[usize::from(n)]).cast());
-    let all = _mm_or_si128(_mm_or_si128(bad, seen.marks), _mm_or_si128(_mm_and_si128(seen.plain, above), seen.outside));
+    let places = _mm_or_si128(_mm_and_si128(seen.plain, above), _mm_subs_epu8(seen.valid, known));
+    let all = _mm_or_si128(_mm_or_si128(bad, seen.marks), _mm_or_si128(places, seen.outside));
     // boards 1 to N
     let boards = (2u32 << n) - 2;
     let waiting = u32::from((seen.waiting as u16).swap_bytes());
@@ -305,12 +307,18 @@ struct Heads {
     most: __m128i,
     above: __m128i,
     same: __m128i,
-    owner: __m128i,
+    /// At the target's place, not 0: an owner without data for a board.
+    bare: __m128i,
+    /// In the second half of a head, below 0: a dirty mark beside which the owner or data is missing.
+    dirty: __m128i,
     tokens: __m128i,
     words: __m128i,
 }
 
 impl Heads {
+    /// Owner and data stand in one number of two bytes, the mark is the next. This makes of them owner + 256 data - 257 dirty.
+    const WEIGHTS: i64 = 1 << (8 * MESSAGE_OWNER) | (-257 << (8 * MESSAGE_DIRTY));
+
     /// Two messages; gives their heads.
     #[inline(always)]
     unsafe fn see(&mut self, p: *const u8, q: *const u8) -> __m128i {
@@ -319,9 +327,13 @@ impl Heads {
         let next = _mm_srli_epi64::<8>(heads);
         self.above = _mm_or_si128(self.above, _mm_subs_epu8(heads, self.most));
         self.same = _mm_or_si128(self.same, _mm_cmpeq_epi8(heads, next));
-        self.owner = _mm_or_si128(self.owner, _mm_subs_epu8(heads, next));
+        // the owner, and data, at the target's place
+        let owner = _mm_srli_epi64::<{ 8 * (MESSAGE_OWNER - TARGET) as i32 }>(heads);
+        let data = _mm_srli_epi64::<{ 8 * (DATA - TARGET) as i32 }>(heads);
+        self.bare = _mm_or_si128(self.bare, _mm_min_epu8(_mm_subs_epu8(owner, data), heads));
+        self.dirty = _mm_or_si128(self.dirty, _mm_madd_epi16(heads, _mm_set1_epi64x(Heads::WEIGHTS)));
         self.tokens = _mm_min_epu8(self.tokens, _mm_or_si128(heads, next));
-        // The second half of a head is below this where data is 0.
+        // The second half of a head is below this where data is 0; not where the owner is dirty, which is unsound then.
         let bare = _mm_cmpgt_epi32(_mm_set1_epi32(1 << (8 * (DATA - MESSAGE_OWNER))), heads);
         for (at, bare) in [(p, _mm_shuffle_epi32::<0b01_01_01_01>(bare)), (q, _mm_shuffle_epi32::<0b11_11_11_11>(bare))] {
             let words = _mm_or_si128(load(at.add(MESSAGE_WORDS)), load(at.add(MESSAGE_WORDS + 16)));
@@ -361,9 +373,10 @@ impl Sums {
 unsafe fn mesh(rec: *const u8, n: u8, b: u8, count: usize, sums: Sums) -> bool {
     let none = _mm_setzero_si128();
     let mut most = [0; MESSAGE_WORDS];
-    (most[SENDER], most[TARGET], most[MESSAGE_BLOCK], most[MESSAGE_PLAIN], most[MESSAGE_OWNER], most[DATA]) = (n, n, b - 1, 0xff, 1, 1);
+    (most[SENDER], most[TARGET], most[MESSAGE_BLOCK], most[MESSAGE_PLAIN]) = (n, n, b - 1, 0xff);
+    (most[MESSAGE_OWNER], most[DATA], most[MESSAGE_DIRTY]) = (1, 1, 1);
     let most = _mm_set1_epi64x(i64::from_le_bytes(most));
-    let mut heads = Heads { most, above: none, same: none, owner: none, tokens: _mm_set1_epi8(-1), words: none };
+    let mut heads = Heads { most, above: none, same: none, bare: none, dirty: none, tokens: _mm_set1_epi8(-1), words: none };
     let mut p = rec.add(HEADER_SIZE);
     let end = p.add(MESSAGE_SIZE * (count & !1));
     while p != end {
@@ -378,12 +391,14 @@ unsafe fn mesh(rec: *const u8, n: u8, b: u8, count: usize, sums: Sums) -> bool {
         sums.add(p, weight);
     }
     const SENDERS: i64 = 0xff << (8 * SENDER);
+    const TARGETS: i64 = 0xff << (8 * TARGET);
     const TOKENS: i64 = 0xff << (8 * MESSAGE_PLAIN);
-    const OWNERS: i64 = 0xff << (8 * MESSAGE_OWNER);
     let same = _mm_and_si128(heads.same, _mm_set1_epi64x(SENDERS));
-    let owner = _mm_and_si128(heads.owner, _mm_set1_epi64x(OWNERS));
+    let bare = _mm_and_si128(heads.bare, _mm_set1_epi64x(TARGETS));
+    let dirty = _mm_and_si128(heads.dirty, _mm_set1_epi64x(i64::MIN));
     let empty = _mm_and_si128(_mm_cmpeq_epi8(heads.tokens, none), _mm_set1_epi64x(TOKENS));
-    zero(_mm_or_si128(_mm_or_si128(heads.above, same), _mm_or_si128(_mm_or_si128(owner, empty), heads.words)))
+    let ends = _mm_or_si128(_mm_or_si128(heads.above, same), _mm_or_si128(bare, dirty));
+    zero(_mm_or_si128(ends, _mm_or_si128(empty, heads.words)))
 }
 
 // ---- steps on a sound record
@@ -437,13 +452,17 @@ unsafe fn send(rec: *mut u8, block: *mut u8, count: u8, s: Sending) -> u64 {
     *to.add(MESSAGE_PLAIN) = s.plain;
     *to.add(MESSAGE_OWNER) = s.owner;
     *to.add(DATA) = s.data;
-    to.add(MESSAGE_ZEROS).cast::<u16>().write_unaligned(0);
+    let cell = block.add(s.c.into());
+    let mark = *cell.add(DIRTY);
+    let taken = mark & s.owner;
+    // with the byte behind it, which is 0
+    to.add(MESSAGE_DIRTY).cast::<u16>().write_unaligned(taken.into());
     let words = words_at(block, s.c).cast_const();
     copy_words(select_unpredictable(s.data != 0, words, NO_WORDS.0.as_ptr()), to.add(MESSAGE_WORDS));
-    let cell = block.add(s.c.into());
     let (plain, owner) = (*cell.add(PLAIN) - s.plain, *cell.add(OWNER) - s.owner);
     *cell.add(PLAIN) = plain;
     *cell.add(OWNER) = owner;
+    *cell.add(DIRTY) = mark - taken;
     *cell.add(VALID) &= u8::from(plain | owner != 0);
     DONE
 }
@@ -465,12 +484,17 @@ unsafe fn deliver(rec: *mut u8, position: u8) -> u64 {
         return NO_MESSAGE;
     }
     let from = rec.add(message_offset(position.into()));
-    let (target, b, data) = (*from.add(TARGET), *from.add(MESSAGE_BLOCK), *from.add(DATA));
+    let (target, b) = (*from.add(TARGET), *from.add(MESSAGE_BLOCK));
     let block = block_at(rec, b);
     let cell = block.add(target.into());
     *cell.add(PLAIN) += *from.add(MESSAGE_PLAIN);
-    *cell.add(OWNER) += *from.add(MESSAGE_OWNER);
-    *cell.add(VALID) |= data;
+    // at home the owner is clean
+    *cell.add(DIRTY) |= (*from.add(MESSAGE_DIRTY)).min(target);
+    let owner = *from.add(MESSAGE_OWNER);
+    *cell.add(OWNER) += owner;
+    // one without data is clean and for home, which has its words
+    let data = *from.add(DATA);
+    *cell.add(VALID) |= data | owner;
     let words = words_at(block, target);
     copy_words(select_unpredictable(data != 0, from.add(MESSAGE_WORDS), words), words);
     // The target is loaded once more: a register that kept it up to here would be missing in the loop over a list.
@@ -530,6 +554,7 @@ unsafe fn one<const WHOLE: bool>(rec: *mut u8, p: *const u8, left: usize) -> (u6
             if *cell.add(PLAIN) + *cell.add(OWNER) < *rec.add(TOKENS) {
                 return (SHORT, STORE_SIZE);
             }
+            *cell.add(DIRTY) = 1;
             let word = p.add(18).cast::<u32>().read_unaligned();
             words_at(block, c).cast::<u32>().add(w.into()).write_unaligned(word);
             (DONE, STORE_SIZE)
@@ -554,7 +579,7 @@ unsafe fn one<const WHOLE: bool>(rec: *mut u8, p: *const u8, left: usize) -> (u6
             if s.plain > *cell.add(PLAIN) || s.owner > *cell.add(OWNER) {
                 return (NOT_HELD, SEND_SIZE);
             }
-            if s.owner > s.data {
+            if s.owner > s.data && s.target | *cell.add(DIRTY) != 0 {
                 return (BARE_OWNER, SEND_SIZE);
             }
             if s.data > *cell.add(VALID) {
@@ -685,7 +710,7 @@ pub fn open(rec: &mut [u8], boards: u32, blocks: u32, tokens: u32) -> u64 {
         for b in 0..blocks as u8 {
             let block = block_at(rec, b);
             let none = _mm_setzero_si128();
-            for at in [PLAIN, OWNER, VALID, BARRING, BARRING + 16] {
+            for at in [PLAIN, OWNER, VALID, DIRTY, BARRING, BARRING + 16] {
                 store(block.add(at), none);
             }
             *block.add(PLAIN) = tokens as u8 - 1;

@@ -1,19 +1,33 @@
-//! Document 01 a third time, with Nos. 1 and 7 of document 02, from these papers alone: neither the engine, nor the other programs,
-//! nor the readings in docs/ were at hand. It keeps typed values and knows nothing of the record's bytes, so buffers (20) and damaged
-//! records (2) are not its matter.
+//! Document 01 a third time, with Nos. 1, 2 and 7 of document 02, from these papers alone: neither the engine, nor the other
+//! programs, nor the readings in docs/ were at hand. It keeps typed values and knows nothing of the record's bytes, so buffers (20)
+//! and damaged records (2) are not its matter.
 
 use std::collections::BTreeSet;
 
 type Words = [u32; 8];
 
-/// A message as it is shown: sender, target, block, plain, owner, data, words.
-type Shown = (u32, u32, u32, u32, bool, bool, Words);
+/// A message as it is shown: sender, target, block, plain, owner, data, words. The owner is shown as `shown` says.
+type Shown = (u32, u32, u32, u32, Option<bool>, bool, Words);
+
+/// No. 2: the mark of an owner token. Owner is `Option<Mark>` throughout, so there is no mark where there is no owner.
+#[derive(Clone, Copy, Debug, PartialEq)]
+enum Mark {
+    /// Home has the words of the block already.
+    Clean,
+    /// There was a store since the owner was last at home.
+    Dirty,
+}
+
+/// How an owner is shown: None where it is not there, false for a clean one, true for a dirty one.
+fn shown(owner: Option<Mark>) -> Option<bool> {
+    owner.map(|mark| mark == Mark::Dirty)
+}
 
 /// "The rack": what one component has of one block.
 #[derive(Clone, Debug, Default, PartialEq)]
 struct Cell {
     plain: u32,
-    owner: bool,
+    owner: Option<Mark>,
     valid: bool,
     words: Words,
 }
@@ -21,7 +35,7 @@ struct Cell {
 impl Cell {
     /// "Steps": held is plain plus owner, so the owner is one of the T and not beside them.
     fn held(&self) -> u32 {
-        self.plain + u32::from(self.owner)
+        self.plain + u32::from(self.owner.is_some())
     }
 }
 
@@ -32,7 +46,7 @@ struct Message {
     target: usize,
     block: usize,
     plain: u32,
-    owner: bool,
+    owner: Option<Mark>,
     data: bool,
     words: Words,
 }
@@ -138,8 +152,8 @@ impl Rack {
         refuse(!fits, 19)?;
         let count = boards as usize + 1;
         let mut column = vec![Cell::default(); count];
-        // "A fresh record": home holds all T, and one of the T is the owner.
-        (column[0].plain, column[0].owner, column[0].valid) = (tokens - 1, true, true);
+        // "A fresh record": home holds all T, and one of the T is the owner. No. 2: fresh owners are clean.
+        (column[0].plain, column[0].owner, column[0].valid) = (tokens - 1, Some(Mark::Clean), true);
         let (waiting, barring) = (BTreeSet::new(), vec![BTreeSet::new(); count]);
         Ok(Rack {
             boards,
@@ -173,6 +187,8 @@ impl Rack {
             0x11 => {
                 refuse(cell.held() < self.tokens, 7)?;
                 cell.words[word as usize] = value;
+                // No. 2: a store makes the owner dirty, whatever the value. All T are held here, so the owner is among them.
+                cell.owner = cell.owner.map(|_| Mark::Dirty);
             }
             0x12 => {
                 let (owner, data) = (owner == 1, data == 1);
@@ -181,8 +197,10 @@ impl Rack {
                 refuse(claims.active().is_some(), 9)?;
                 refuse(plain == 0 && !owner, 10)?;
                 // W6: the plain count alone limits the plain sent; the owner does not stand in for a plain token.
-                refuse(plain > cell.plain || owner && !cell.owner, 11)?;
-                refuse(owner && !data, 12)?;
+                refuse(plain > cell.plain || owner && cell.owner.is_none(), 11)?;
+                // No. 2: without data the owner may go only where it is clean and the target is home, with any plain beside it.
+                let fit_bare = cell.owner == Some(Mark::Clean) && target == 0;
+                refuse(owner && !data && !fit_bare, 12)?;
                 refuse(data && !cell.valid, 6)?;
                 refuse(full, 13)?;
                 self.launch((c, b), target as usize, plain, owner, data);
@@ -190,10 +208,15 @@ impl Rack {
             0x13 => {
                 refuse(position as usize >= self.mesh.len(), 14)?;
                 let message = self.mesh.remove(position as usize);
-                let cell = &mut self.cells[message.block][message.target];
+                let (cell, home) = (&mut self.cells[message.block][message.target], message.target == 0);
                 cell.plain += message.plain;
-                cell.owner |= message.owner;
-                // Without data neither the words nor the valid mark change.
+                if let Some(mark) = message.owner {
+                    // No. 2: the owner becomes clean on delivery to home; a board takes it with the mark it came with.
+                    cell.owner = Some(if home { Mark::Clean } else { mark });
+                    // No. 2: home that receives the owner is valid, also without data: then with the words it already has.
+                    cell.valid |= home;
+                }
+                // Without data the words do not change, nor, but for the owner at home, the valid mark.
                 if message.data {
                     (cell.words, cell.valid) = (message.words, true);
                 }
@@ -220,7 +243,8 @@ impl Rack {
                 refuse(target == c, 8)?;
                 refuse(cell.held() == 0, 5)?;
                 refuse(full, 13)?;
-                let (plain, owner, data) = (cell.plain, cell.owner, cell.valid);
+                // The owner's holder is valid, so no owner is forwarded bare.
+                let (plain, owner, data) = (cell.plain, cell.owner.is_some(), cell.valid);
                 self.launch((c, b), target, plain, owner, data);
             }
         }
@@ -237,7 +261,8 @@ impl Rack {
     fn launch(&mut self, (sender, block): (usize, usize), target: usize, plain: u32, owner: bool, data: bool) {
         let cell = &mut self.cells[block][sender];
         cell.plain -= plain;
-        cell.owner &= !owner;
+        // No. 2: the mark is the owner's and goes with it; a step names only owner yes or no.
+        let owner = if owner { cell.owner.take() } else { None };
         // A mark that outlived the last token would let a stale word be read later; the words themselves stay.
         cell.valid &= cell.held() > 0;
         let words = if data { cell.words } else { [0; 8] };
@@ -251,21 +276,22 @@ impl Rack {
         let cell = &self.cells[b][c];
         Ok(match cell {
             _ if cell.held() == self.tokens => b'M',
-            _ if cell.owner => b'O',
+            _ if cell.owner.is_some() => b'O',
             _ if cell.valid && cell.plain > 0 => b'S',
             _ => b'I',
         })
     }
 
-    /// What one component has of one block: plain tokens, owner, valid, the eight words as held (also where valid is not set).
-    pub fn cell(&self, component: usize, block: usize) -> (u32, bool, bool, [u32; 8]) {
+    /// What one component has of one block: plain tokens, owner (None not there, false clean, true dirty), valid, the eight words as
+    /// held (also where valid is not set).
+    pub fn cell(&self, component: usize, block: usize) -> (u32, Option<bool>, bool, [u32; 8]) {
         let cell = &self.cells[block][component];
-        (cell.plain, cell.owner, cell.valid, cell.words)
+        (cell.plain, shown(cell.owner), cell.valid, cell.words)
     }
 
     /// The messages in flight, oldest first.
     pub fn mesh(&self) -> Vec<Shown> {
-        let view = |m: &Message| (m.sender as u32, m.target as u32, m.block as u32, m.plain, m.owner, m.data, m.words);
+        let view = |m: &Message| (m.sender as u32, m.target as u32, m.block as u32, m.plain, shown(m.owner), m.data, m.words);
         self.mesh.iter().map(view).collect()
     }
 

@@ -1,7 +1,9 @@
 //! What a comparison reached: for each call and kind of step, how often it was accepted and met each refusal; which messages were delivered from
-//! a filled mesh, and whom they served; which steps at home the lists had.
+//! a filled mesh, and whom they served; which steps at home the lists had; what was met of the owner's mark.
 
+use crate::calls::sound_rack;
 use crate::model::{Answer, Message, Rack, Refusal, Reply, Step, HOME, MESH_LIMIT, WORDS};
+use crate::owners;
 
 pub const KINDS: [&str; 12] =
     ["load", "store", "send", "deliver", "raise", "lower", "forward", "other bytes", "opening", "letter", "reading", "writing"];
@@ -113,7 +115,7 @@ fn at_home(rack: &Rack, step: Step, reply: Reply) -> [bool; AT_HOME.len()] {
         differs(1),
         differs(rack.boards),
         given.is_some() && all,
-        given.is_some() && !home.owner,
+        given.is_some() && !home.owner.here(),
         load && refused(Refusal::OffRack) && cells.is_none() && usize::from(word) < WORDS,
         load && refused(Refusal::OffRack) && cells.is_some(),
         load && refused(Refusal::NoToken),
@@ -147,13 +149,15 @@ pub struct Coverage {
     pub flat_loads: u64,
     /// Those of them that are at home.
     pub flat_home_loads: u64,
-    pub damaged: u64,
-    pub damaged_sound: u64,
+    damaged: u64,
+    damaged_sound: u64,
     pub runs: u64,
     pub run_steps: u64,
     pub letters: u64,
     delivered: Delivered,
     at_home: [u64; AT_HOME.len()],
+    owners: [u64; owners::MET.len()],
+    marks: [u64; owners::DAMAGED.len()],
 }
 
 /// Adds each to the count at its place.
@@ -214,10 +218,24 @@ impl Coverage {
         add_each(&mut self.at_home, at_home(rack, step, reply));
     }
 
+    /// Counts what a step of a list met of the owner's mark.
+    pub fn owners(&mut self, met: [bool; owners::MET.len()]) {
+        add_each(&mut self.owners, met);
+    }
+
+    /// Counts a damaged record that had this rack before; sound or not.
+    pub fn damaged(&mut self, before: &Rack, record: &[u8]) {
+        self.damaged += 1;
+        self.damaged_sound += u64::from(sound_rack(record).is_ok());
+        add_each(&mut self.marks, owners::damaged(before, record));
+    }
+
     /// Adds what another part of the comparison reached.
     pub fn add(&mut self, other: &Coverage) {
         add_each(self.counts.iter_mut().flatten(), other.counts.into_iter().flatten());
         add_each(&mut self.at_home, other.at_home);
+        add_each(&mut self.owners, other.owners);
+        add_each(&mut self.marks, other.marks);
         self.steps += other.steps;
         self.lists += other.lists;
         self.most_in_flight = self.most_in_flight.max(other.most_in_flight);
@@ -242,9 +260,11 @@ impl Coverage {
             self.flat_loads, self.flat_home_loads, self.letters
         );
         println!("{} damaged records, {} of them sound", self.damaged, self.damaged_sound);
+        println!("marks of damaged records: {}", named(&owners::DAMAGED, &self.marks));
         println!("{} runs of {} steps", self.runs, self.run_steps);
         self.delivered.print();
         println!("steps at home: {}", named(&AT_HOME, &self.at_home));
+        println!("owners: {}", named(&owners::MET, &self.owners));
         for (kind, counts) in KINDS.iter().zip(&self.counts) {
             let refused: Vec<String> =
                 counts.iter().enumerate().skip(1).filter(|(_, &n)| n > 0).map(|(number, n)| format!("r{number} {n}")).collect();
@@ -252,10 +272,13 @@ impl Coverage {
         }
     }
 
-    /// What a kind can meet and never met, and what it met and cannot; what was never delivered; what was never tried at home.
+    /// What a kind can meet and never met, and what it met and cannot; what was never delivered; what was never tried at home; what was
+    /// never met of the owner's mark.
     pub fn gaps(&self) -> Vec<String> {
         let mut gaps = self.delivered.gaps();
         gaps.extend(missing(&AT_HOME, &self.at_home).map(|step| format!("no {step} at home")));
+        gaps.extend(missing(&owners::MET, &self.owners).map(|sort| format!("no {sort}")));
+        gaps.extend(missing(&owners::DAMAGED, &self.marks).map(|sort| format!("no damaged record: {sort}")));
         // The replies are the model's in both counts: this guards the comparison itself.
         let answered: u64 = self.at_home[..ANSWERED].iter().sum();
         if self.flat_home_loads != answered {

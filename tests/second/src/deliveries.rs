@@ -88,7 +88,7 @@ impl Deliveries {
         let cells = &rack.blocks[usize::from(block)].cells;
         if let Some((component, cell)) = (HOME..).zip(cells).find(|(component, cell)| *component != board && cell.held() > 0) {
             let full = rack.mesh.len() == MESH_LIMIT;
-            let send = Step::Send { component, block, target: board, plain: cell.plain as u8, owner: cell.owner, data: cell.valid };
+            let send = Step::Send { component, block, target: board, plain: cell.plain as u8, owner: cell.owner.here(), data: cell.valid };
             return Some(if full { self.deliver(rack) } else { send });
         }
         self.gathering = (stores > 1).then_some(Gathering { block, board, stores: stores - 1 });
@@ -101,12 +101,16 @@ impl Deliveries {
         Some(Step::Load { component, block, word: self.rng.below(WORDS) as u8 })
     }
 
-    /// A few tokens of a component with valid words, mostly with these, to another component: mostly one that has other words.
+    /// A few tokens of a component with valid words, mostly with these, to another component: mostly one that has other words. Every third
+    /// owner goes home without them.
     fn send(&mut self, rack: &Rack) -> Option<Step> {
         let (component, block) = self.valid(rack)?;
         let cell = &rack.blocks[usize::from(block)].cells[usize::from(component)];
         let plain = self.rng.pick(&[1, 1, 2]).min(cell.plain) as u8;
-        let owner = cell.owner && (plain == 0 || self.rng.percent(10));
+        let owner = cell.owner.here() && (plain == 0 || self.rng.percent(10));
+        if owner && component != HOME && self.rng.below(3) == 0 {
+            return Some(Step::Send { component, block, target: HOME, plain, owner, data: false });
+        }
         let data = owner || self.rng.percent(85);
         let cells = (HOME..).zip(&rack.blocks[usize::from(block)].cells);
         let others: Vec<u8> = cells.filter(|(_, other)| other.words != cell.words).map(|(component, _)| component).collect();

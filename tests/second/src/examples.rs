@@ -1,6 +1,7 @@
-//! Document 01's examples: the lines W1 to W11 and the input of rackrun, with the results that it states, a deliver's by document 02's No. 1. Beside
-//! them a forward into a full mesh; delivers that serve home, serve from the middle, and serve components and blocks of two digits; and loads at home
-//! by No. 7, with what home still refuses, on a small rack and on a large one.
+//! Document 01's examples: the lines W1 to W11 and the input of rackrun, with the results that it states, a deliver's by document 02's No.
+//! 1. Beside them a forward into a full mesh; delivers that serve home, serve from the middle, and serve components and blocks of two
+//! digits; loads at home by No. 7, with what home still refuses, on a small rack and on a large one; and owners that go home bare by No. 2,
+//! or may not.
 
 use crate::calls::unhex;
 use crate::model::{self, Step};
@@ -14,6 +15,12 @@ pub enum Line {
 }
 
 /// Examples that rackrun is tried on too.
+pub const BARE_ALONE: &str = "bare_alone";
+pub const BARE_CLAIMED: &str = "bare_claimed";
+pub const BARE_DIRTY: &str = "bare_dirty";
+pub const BARE_FULL: &str = "bare_full";
+pub const BARE_HOME_LOADS: &str = "bare_home_loads";
+pub const BARE_RETURN: &str = "bare_return";
 pub const HOME_LOADS: &str = "home_loads";
 pub const HOME_LOADS_FAR: &str = "home_loads_far";
 pub const LISTING: &str = "listing";
@@ -53,6 +60,16 @@ fn send(component: u8, block: u8, target: u8, plain: u8, owner: bool, data: bool
     line(Step::Send { component, block, target, plain, owner, data }, says)
 }
 
+/// All tokens of block 0 on a rack of T = 3, with data.
+fn whole(component: u8, target: u8, says: &'static str) -> Line {
+    send(component, 0, target, 2, true, true, says)
+}
+
+/// The owner of block 0 without data, beside so many plain tokens.
+fn bare(component: u8, target: u8, plain: u8, says: &'static str) -> Line {
+    send(component, 0, target, plain, true, false, says)
+}
+
 fn deliver(says: &'static str) -> Line {
     deliver_at(0, says)
 }
@@ -63,6 +80,10 @@ fn deliver_at(position: u8, says: &'static str) -> Line {
 
 fn raise(component: u8, says: &'static str) -> Line {
     line(Step::Raise { component, block: 0 }, says)
+}
+
+fn forward(component: u8, says: &'static str) -> Line {
+    line(Step::Forward { component, block: 0 }, says)
 }
 
 fn lower(component: u8, says: &'static str) -> Line {
@@ -102,7 +123,7 @@ pub fn all() -> Vec<Example> {
     w8.extend([deliver("d1.0"), send(0, 1, 1, 1, false, false, "ok")]);
     let mut forward_full = full();
     forward_full.extend([line(Step::Raise { component: 1, block: 1 }, "ok"), line(Step::Forward { component: 0, block: 1 }, "r13")]);
-    vec![
+    let mut examples = vec![
         rack("W1", vec![load(1, "r5")]),
         rack("W2", w2()),
         rack("W3", w3),
@@ -112,7 +133,7 @@ pub fn all() -> Vec<Example> {
         rack("W7", vec![send(0, 0, 1, 0, false, false, "r10")]),
         Example { name: "W8", sizes: (2, 2, 64), opening: "ok", lines: w8 },
         Example { name: "W8, then a forward", sizes: (2, 2, 64), opening: "ok", lines: forward_full },
-        rack("W9", vec![raise(2, "ok"), raise(1, "ok"), line(Step::Forward { component: 0, block: 0 }, "ok"), Line::Target(1)]),
+        rack("W9", vec![raise(2, "ok"), raise(1, "ok"), forward(0, "ok"), Line::Target(1)]),
         rack("W10", vec![raise(1, "ok"), raise(2, "ok"), lower(1, "ok"), raise(1, "r16"), lower(2, "ok"), raise(1, "ok")]),
         opening("W11, T = 1", 1, "r19"),
         opening("W11, T = 2", 2, "ok"),
@@ -210,5 +231,86 @@ pub fn all() -> Vec<Example> {
                 load_at(15, 31, 7, "vfedcba98"),
             ],
         },
+    ];
+    examples.extend(bare_owners());
+    examples
+}
+
+/// Owners that go home without data, and those that may not, by document 02's No. 2.
+fn bare_owners() -> Vec<Example> {
+    let rack = |name, lines| Example { name, sizes: (2, 1, 3), opening: "ok", lines };
+    // Board 1 has all tokens, with these lines behind.
+    let lent = |lines: Vec<Line>| [vec![whole(0, 1, "ok"), deliver("d1.0")], lines].into_iter().flatten().collect::<Vec<Line>>();
+    // 64 messages of block 1 in flight, board 1 with block 0.
+    let full = |lines: Vec<Line>, says| {
+        let mut all = vec![send(0, 0, 1, 63, true, true, "ok"), deliver("d1.0")];
+        all.extend(lines);
+        all.extend((0..63).map(|_| send(0, 1, 2, 1, false, false, "ok")));
+        all.extend([send(0, 1, 2, 0, true, true, "ok"), bare(1, 0, 63, says), bare(1, 2, 63, "r12")]);
+        all
+    };
+    vec![
+        rack(
+            BARE_RETURN,
+            lent(vec![
+                store_at(1, 0, 0, 7, "ok"),
+                bare(1, 0, 2, "r12"),
+                whole(1, 0, "ok"),
+                deliver("d0.0"),
+                whole(0, 2, "ok"),
+                deliver("d2.0"),
+                load(2, "v00000007"),
+                bare(2, 1, 2, "r12"),
+                bytes("12 00 18 01 00 01 02 02 00 01 00 05 00 01 00 06 00 01 02 07 00 01 01 08 00 01 00", "ok"),
+                load(2, "r5"),
+                deliver("d0.0"),
+                send(0, 0, 1, 1, false, true, "ok"),
+                deliver("d1.0"),
+                load(1, "v00000007"),
+            ]),
+        ),
+        // A store of the value that is there makes the owner dirty, and words that home has do not make it clean.
+        rack(BARE_DIRTY, lent(vec![store_at(1, 0, 0, 0, "ok"), bare(1, 0, 2, "r12")])),
+        rack(
+            "bare, with home's words current",
+            lent(vec![store(1, "ok"), send(1, 0, 0, 1, false, true, "ok"), deliver("d0.0"), load(0, "v00000001"), bare(1, 0, 1, "r12")]),
+        ),
+        rack(BARE_ALONE, lent(vec![bare(1, 0, 0, "ok"), load(1, "v00000000"), deliver("d0.0"), load(0, "v00000000")])),
+        rack("bare beside one", lent(vec![bare(1, 0, 1, "ok"), load(1, "v00000000"), deliver("d0.0"), load(0, "v00000000")])),
+        rack("bare beside all", lent(vec![bare(1, 0, 2, "ok"), load(1, "r5"), deliver("d0.0"), load(0, "v00000000")])),
+        rack("bare over two boards", lent(vec![whole(1, 2, "ok"), deliver("d2.0"), bare(2, 0, 2, "ok"), deliver("d0.0")])),
+        rack(
+            BARE_HOME_LOADS,
+            lent(vec![
+                store_at(1, 0, 0, 7, "ok"),
+                whole(1, 0, "ok"),
+                deliver("d0.0"),
+                whole(0, 2, "ok"),
+                deliver("d2.0"),
+                load(0, "r5"),
+                bare(2, 0, 1, "ok"),
+                load(0, "r5"),
+                deliver("d0.0"),
+                load(0, "v00000007"),
+                load(2, "v00000007"),
+                send(2, 0, 0, 1, false, false, "ok"),
+                deliver("d0.0"),
+                whole(0, 1, "ok"),
+                deliver("d1.0"),
+                bare(1, 0, 0, "ok"),
+                deliver("d0.0"),
+                load(0, "v00000007"),
+            ]),
+        ),
+        rack(
+            BARE_CLAIMED,
+            lent(vec![raise(2, "ok"), bare(1, 0, 2, "r9"), forward(1, "ok"), deliver("d2.0"), lower(2, "ok"), bare(2, 0, 2, "ok")]),
+        ),
+        rack(
+            "bare, claimed and dirty",
+            lent(vec![store(1, "ok"), raise(2, "ok"), forward(1, "ok"), deliver("d2.0"), lower(2, "ok"), bare(2, 0, 2, "r12")]),
+        ),
+        Example { name: BARE_FULL, sizes: (2, 2, 64), opening: "ok", lines: full(Vec::new(), "r13") },
+        Example { name: "bare, full and dirty", sizes: (2, 2, 64), opening: "ok", lines: full(vec![store(1, "ok")], "r12") },
     ]
 }

@@ -16,8 +16,10 @@ pub const MESSAGE_BLOCK: usize = 2;
 pub const MESSAGE_PLAIN: usize = 3;
 pub const MESSAGE_OWNER: usize = 4;
 pub const DATA: usize = 5;
-/// From here to the words a sound record has 0.
-pub const MESSAGE_ZEROS: usize = 6;
+/// The owner's mark: 1 dirty, 0 clean or no owner.
+pub const MESSAGE_DIRTY: usize = 6;
+/// A sound record has 0 here.
+pub const MESSAGE_ZERO: usize = 7;
 pub const MESSAGE_WORDS: usize = 8;
 
 pub const BLOCKS_OFFSET: usize = HEADER_SIZE + MESH_ROOM * MESSAGE_SIZE;
@@ -27,6 +29,8 @@ pub const PLACES: usize = 16;
 pub const PLAIN: usize = 0;
 pub const OWNER: usize = 16;
 pub const VALID: usize = 32;
+/// The owner's mark: 1 dirty, 0 clean or no owner.
+pub const DIRTY: usize = 48;
 /// The barring set of board i is at place i; place 0 is 0 in a sound record.
 pub const BARRING: usize = 80;
 pub const SET_SIZE: usize = 2;

@@ -11,6 +11,7 @@ pub mod layout;
 pub mod lists;
 pub mod model;
 pub mod numbers;
+pub mod owners;
 pub mod record;
 pub mod reply;
 pub mod rng;

@@ -82,8 +82,8 @@ impl Lists {
             }
             1 => {
                 let block = self.block(rack, mood);
-                let value = self.rng.draw() as u32;
-                Step::Store { component: self.writer(rack, block, mood), block, word: self.word(), value }
+                let component = self.writer(rack, block, mood);
+                self.store(rack, component, block)
             }
             3 if !rack.mesh.is_empty() || self.rng.percent(15) => Step::Deliver { position: self.position(rack, mood) },
             2 | 3 => self.send(rack, mood),
@@ -125,7 +125,7 @@ impl Lists {
             return Step::Deliver { position: self.position(rack, mood) };
         }
         if mood == Mood::Gather && component == self.board && self.rng.percent(80) {
-            return Step::Store { component, block, word: self.word(), value: self.rng.draw() as u32 };
+            return self.store(rack, component, block);
         }
         let target = match self.rng.below(100) {
             0..3 => component,
@@ -145,18 +145,31 @@ impl Lists {
             10..40 if mood != Mood::Flood => self.rng.below(cell.plain as usize + 1) as u8,
             _ => cell.plain.min(1) as u8,
         };
-        let owner = match (cell.owner, mood) {
+        let owner = match (cell.owner.here(), mood) {
             (true, _) if all || cell.plain == 0 => !self.rng.percent(4),
             (true, Mood::Flood) => self.rng.percent(3),
             (true, _) => self.rng.percent(30),
             (false, _) => self.rng.percent(3),
         };
+        // Every third owner goes home without data, clean or dirty: some are accepted and some meet 12.
+        if owner && component != HOME && self.rng.below(3) == 0 {
+            return Step::Send { component, block, target: HOME, plain, owner, data: false };
+        }
         let data = match (owner, cell.valid) {
             (true, _) => !self.rng.percent(6),
             (false, true) => self.rng.percent(50),
             (false, false) => self.rng.percent(10),
         };
         Step::Send { component, block, target, plain, owner, data }
+    }
+
+    /// A store, now and then of the value that is there already: it makes the owner dirty all the same.
+    fn store(&mut self, rack: &Rack, component: u8, block: u8) -> Step {
+        let word = self.word();
+        let cell = rack.blocks.get(usize::from(block)).and_then(|b| b.cells.get(usize::from(component)));
+        let there = cell.and_then(|cell| cell.words.get(usize::from(word)).copied());
+        let value = there.filter(|_| self.rng.percent(25)).unwrap_or_else(|| self.rng.draw() as u32);
+        Step::Store { component, block, word, value }
     }
 
     /// A block, mostly the one of this stretch where one matters; now and then off the rack.

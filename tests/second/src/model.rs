@@ -1,5 +1,5 @@
-//! Document 01 a second time, as typed values, with document 02's Nos. 1 and 7: what a rack is, when it is sound, what each step does and which
-//! refusal it meets.
+//! Document 01 a second time, as typed values, with document 02's Nos. 1, 2 and 7: what a rack is, when it is sound, what each step does
+//! and which refusal it meets.
 //!
 //! It is written for reading beside the paper, section by section, and knows nothing of the record's bytes (`record` does).
 
@@ -16,11 +16,31 @@ pub const MOST_TOKENS: u32 = 64;
 
 pub type Words = [u32; WORDS];
 
+/// The owner token as a component or a message has it: not at all, or with its mark.
+#[derive(Clone, Copy, Debug, Default, PartialEq, Eq, Hash)]
+pub enum Owner {
+    #[default]
+    Away,
+    Dirty,
+    Clean,
+}
+
+impl Owner {
+    pub fn here(self) -> bool {
+        self != Owner::Away
+    }
+
+    /// Whether it may go to this target without data: home has the words of a clean owner already.
+    pub fn may_go_bare(self, target: u8) -> bool {
+        self == Owner::Clean && target == HOME
+    }
+}
+
 /// What a component has of a block.
 #[derive(Clone, Debug, Default, PartialEq, Eq, Hash)]
 pub struct Cell {
     pub plain: u32,
-    pub owner: bool,
+    pub owner: Owner,
     pub valid: bool,
     pub words: Words,
 }
@@ -28,7 +48,7 @@ pub struct Cell {
 impl Cell {
     /// "Held" is plain plus owner.
     pub fn held(&self) -> u32 {
-        self.plain + u32::from(self.owner)
+        self.plain + u32::from(self.owner.here())
     }
 }
 
@@ -38,14 +58,19 @@ pub struct Message {
     pub target: u8,
     pub block: u8,
     pub plain: u32,
-    pub owner: bool,
+    pub owner: Owner,
     pub data: bool,
     pub words: Words,
 }
 
 impl Message {
     pub fn carried(&self) -> u32 {
-        self.plain + u32::from(self.owner)
+        self.plain + u32::from(self.owner.here())
+    }
+
+    /// Whether it brings the owner without data.
+    pub fn bare(&self) -> bool {
+        self.owner.here() && !self.data
     }
 }
 
@@ -86,7 +111,7 @@ impl Rack {
             return Err(Refusal::Size);
         }
         let boards = boards as u8;
-        let home = Cell { plain: tokens - 1, owner: true, valid: true, words: [0; WORDS] };
+        let home = Cell { plain: tokens - 1, owner: Owner::Clean, valid: true, words: [0; WORDS] };
         let mut cells = vec![home];
         cells.resize(usize::from(boards) + 1, Cell::default());
         let block = Block { cells, waiting: BTreeSet::new(), barring: (1..=boards).map(|board| (board, BTreeSet::new())).collect() };
@@ -101,14 +126,15 @@ impl Rack {
         }
         // at most 64 messages, each with words all 0 if it has no data
         let mesh_fits = self.mesh.len() <= MESH_LIMIT && self.mesh.iter().all(|m| m.data || m.words == [0; WORDS]);
-        // every message has a known sender, a known and different target, a known block and at least one token, and data if it has the owner
+        // every message has a known sender, a known and different target, a known block and at least one token, and data if it has the
+        // owner; by document 02's No. 2 not if that is clean and bound for home
         let messages_known = self.mesh.iter().all(|m| {
             m.sender <= self.boards
                 && m.target <= self.boards
                 && m.target != m.sender
                 && usize::from(m.block) < self.blocks.len()
                 && m.carried() >= 1
-                && (m.data || !m.owner)
+                && (!m.bare() || m.owner.may_go_bare(m.target))
         });
         mesh_fits
             && messages_known
@@ -119,7 +145,7 @@ impl Rack {
                 // valid only where a token is held
                 let valid_held = block.cells.iter().all(|c| !c.valid || c.held() >= 1);
                 // the owner's holder is valid
-                let owner_valid = block.cells.iter().all(|c| c.valid || !c.owner);
+                let owner_valid = block.cells.iter().all(|c| c.valid || !c.owner.here());
                 // every set has boards 1 to N only
                 let boards_only =
                     std::iter::once(&block.waiting).chain(block.barring.values()).flatten().all(|board| (1..=self.boards).contains(board));
@@ -138,7 +164,14 @@ impl Rack {
         let flying = self.mesh.iter().filter(|m| m.block == block).map(|m| (m.plain, m.owner));
         cells
             .chain(flying)
-            .fold(Total::default(), |sum, (plain, owner)| Total { plain: sum.plain + plain, owners: sum.owners + u32::from(owner) })
+            .fold(Total::default(), |sum, (plain, owner)| Total { plain: sum.plain + plain, owners: sum.owners + u32::from(owner.here()) })
+    }
+
+    /// Whether a block's owner is clean, wherever it is.
+    pub fn clean(&self, block: u8) -> bool {
+        let cells = self.block(block).cells.iter().map(|c| c.owner);
+        let flying = self.mesh.iter().filter(|m| m.block == block).map(|m| m.owner);
+        cells.chain(flying).any(|owner| owner == Owner::Clean)
     }
 
     fn block(&self, block: u8) -> &Block {
@@ -195,7 +228,12 @@ impl Rack {
     fn change(&mut self, step: Step) -> Answer {
         match step {
             Step::Load { component, block, word } => return Answer::Word(self.cell(component, block).words[usize::from(word)]),
-            Step::Store { component, block, word, value } => self.cell_mut(component, block).words[usize::from(word)] = value,
+            Step::Store { component, block, word, value } => {
+                let cell = self.cell_mut(component, block);
+                cell.words[usize::from(word)] = value;
+                // Also where the word had this value before: a store makes the owner dirty.
+                cell.owner = Owner::Dirty;
+            }
             Step::Send { component, block, target, plain, owner, data } => {
                 self.send(component, block, target, u32::from(plain), owner, data)
             }
@@ -214,7 +252,7 @@ impl Rack {
             Step::Forward { component, block } => {
                 let active = self.block(block).active().expect("18 is met where there is none");
                 let Cell { plain, owner, valid, .. } = *self.cell(component, block);
-                self.send(component, block, active, plain, owner, valid);
+                self.send(component, block, active, plain, owner.here(), valid);
             }
         }
         Answer::Done
@@ -223,7 +261,7 @@ impl Rack {
     fn send(&mut self, component: u8, block: u8, target: u8, plain: u32, owner: bool, data: bool) {
         let cell = self.cell_mut(component, block);
         cell.plain -= plain;
-        cell.owner &= !owner;
+        let owner = if owner { std::mem::take(&mut cell.owner) } else { Owner::Away };
         if cell.held() == 0 {
             cell.valid = false;
         }
@@ -235,11 +273,14 @@ impl Rack {
         let message = self.mesh.remove(usize::from(position));
         let cell = self.cell_mut(message.target, message.block);
         cell.plain += message.plain;
-        cell.owner |= message.owner;
+        if message.owner.here() {
+            cell.owner = if message.target == HOME { Owner::Clean } else { message.owner };
+        }
         if message.data {
             cell.words = message.words;
-            cell.valid = true;
         }
+        // Home, receiving a bare owner, becomes valid with the words it already has.
+        cell.valid |= message.data || message.bare();
         Answer::Served { component: message.target, block: message.block }
     }
 }
@@ -260,7 +301,11 @@ impl FlatMemory {
     }
 
     pub fn load(&self, block: u8, word: u8) -> u32 {
-        self.0[usize::from(block)][usize::from(word)]
+        self.words(block)[usize::from(word)]
+    }
+
+    pub fn words(&self, block: u8) -> &Words {
+        &self.0[usize::from(block)]
     }
 }
 
@@ -427,9 +472,11 @@ impl Rack {
             (Empty, Step::Send { plain, owner, .. }) => plain == 0 && !owner,
             (NotHeld, Step::Send { component, block, plain, owner, .. }) => {
                 let cell = self.cell(component, block);
-                u32::from(plain) > cell.plain || (owner && !cell.owner)
+                u32::from(plain) > cell.plain || (owner && !cell.owner.here())
             }
-            (BareOwner, Step::Send { owner, data, .. }) => owner && !data,
+            (BareOwner, Step::Send { component, block, target, owner, data, .. }) => {
+                owner && !data && !self.cell(component, block).owner.may_go_bare(target)
+            }
             (MeshFull, Step::Send { .. } | Step::Forward { .. }) => self.mesh.len() == MESH_LIMIT,
             (NoMessage, Step::Deliver { position }) => usize::from(position) >= self.mesh.len(),
             (Waiting, Step::Raise { component, block }) => self.block(block).waiting.contains(&component),
@@ -472,7 +519,7 @@ impl Rack {
         let cell = self.cell(component as u8, block as u8);
         Ok(if cell.held() == self.tokens {
             'M'
-        } else if cell.owner {
+        } else if cell.owner.here() {
             'O'
         } else if cell.valid && cell.plain >= 1 {
             'S'

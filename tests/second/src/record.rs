@@ -1,11 +1,11 @@
 //! The record's bytes by its layout: decoded to the model's rack, and a rack encoded over the bytes of a buffer.
 
 use crate::layout::{
-    BARRING, BLOCKS_OFFSET, BLOCK_SIZE, COUNT, DATA, HEADER_SIZE, MESH_ROOM, MESSAGE_BLOCK, MESSAGE_OWNER, MESSAGE_PLAIN, MESSAGE_SIZE,
-    MESSAGE_WORDS, MESSAGE_ZEROS, OWNER, PLACES, PLAIN, SENDER, SET_SIZE, TARGET, VALID, WAITING, WORDS_SIZE,
+    BARRING, BLOCKS_OFFSET, BLOCK_SIZE, COUNT, DATA, DIRTY, HEADER_SIZE, MESH_ROOM, MESSAGE_BLOCK, MESSAGE_DIRTY, MESSAGE_OWNER,
+    MESSAGE_PLAIN, MESSAGE_SIZE, MESSAGE_WORDS, MESSAGE_ZERO, OWNER, PLACES, PLAIN, SENDER, SET_SIZE, TARGET, VALID, WAITING, WORDS_SIZE,
 };
 use crate::layout::{BLOCKS, BOARDS, TOKENS, WORDS as WORDS_OFFSET};
-use crate::model::{flag, Block, Cell, Message, Rack, Words, WORDS};
+use crate::model::{flag, Block, Cell, Message, Owner, Rack, Words, WORDS};
 use std::collections::BTreeSet;
 
 pub use crate::layout::length;
@@ -25,13 +25,13 @@ pub fn decode(buffer: &[u8]) -> Option<Rack> {
 }
 
 fn message(bytes: &[u8]) -> Option<Message> {
-    zero(&bytes[MESSAGE_ZEROS..MESSAGE_WORDS])?;
+    zero(&bytes[MESSAGE_ZERO..MESSAGE_WORDS])?;
     Some(Message {
         sender: bytes[SENDER],
         target: bytes[TARGET],
         block: bytes[MESSAGE_BLOCK],
         plain: bytes[MESSAGE_PLAIN].into(),
-        owner: flag(bytes[MESSAGE_OWNER])?,
+        owner: owner(bytes[MESSAGE_OWNER], bytes[MESSAGE_DIRTY])?,
         data: flag(bytes[DATA])?,
         words: words(&bytes[MESSAGE_WORDS..]),
     })
@@ -39,7 +39,7 @@ fn message(bytes: &[u8]) -> Option<Message> {
 
 fn block(bytes: &[u8], components: usize) -> Option<Block> {
     // What stands at places above N is 0; so is the set at place 0, since home has none.
-    for figure in [PLAIN, OWNER, VALID] {
+    for figure in [PLAIN, OWNER, VALID, DIRTY] {
         zero(&bytes[figure + components..figure + PLACES])?;
     }
     let sets = &bytes[BARRING..BARRING + PLACES * SET_SIZE];
@@ -47,13 +47,24 @@ fn block(bytes: &[u8], components: usize) -> Option<Block> {
     zero(&sets[components * SET_SIZE..])?;
     let cell = |c: usize| {
         let words = words(&bytes[WORDS_OFFSET + WORDS_SIZE * c..]);
-        Some(Cell { plain: bytes[PLAIN + c].into(), owner: flag(bytes[OWNER + c])?, valid: flag(bytes[VALID + c])?, words })
+        let owner = owner(bytes[OWNER + c], bytes[DIRTY + c])?;
+        Some(Cell { plain: bytes[PLAIN + c].into(), owner, valid: flag(bytes[VALID + c])?, words })
     };
     Some(Block {
         cells: (0..components).map(cell).collect::<Option<_>>()?,
         waiting: set(&bytes[WAITING..]),
         barring: (0..).zip(sets.chunks(SET_SIZE).take(components).map(set)).skip(1).collect(),
     })
+}
+
+/// The owner of two bytes. Where there is no owner, it has no mark.
+fn owner(here: u8, dirty: u8) -> Option<Owner> {
+    match (flag(here)?, flag(dirty)?) {
+        (false, false) => Some(Owner::Away),
+        (true, true) => Some(Owner::Dirty),
+        (true, false) => Some(Owner::Clean),
+        (false, true) => None,
+    }
 }
 
 fn zero(bytes: &[u8]) -> Option<()> {
@@ -86,19 +97,21 @@ pub fn encode(rack: &Rack, buffer: &mut [u8]) {
         bytes[TARGET] = m.target;
         bytes[MESSAGE_BLOCK] = m.block;
         bytes[MESSAGE_PLAIN] = m.plain as u8;
-        bytes[MESSAGE_OWNER] = m.owner.into();
+        bytes[MESSAGE_OWNER] = m.owner.here().into();
         bytes[DATA] = m.data.into();
-        bytes[MESSAGE_ZEROS..MESSAGE_WORDS].fill(0);
+        bytes[MESSAGE_DIRTY] = (m.owner == Owner::Dirty).into();
+        bytes[MESSAGE_ZERO] = 0;
         put_words(&mut bytes[MESSAGE_WORDS..], &m.words);
     }
     for (bytes, block) in record[BLOCKS_OFFSET..].chunks_mut(BLOCK_SIZE).zip(&rack.blocks) {
-        for figure in [PLAIN, OWNER, VALID] {
+        for figure in [PLAIN, OWNER, VALID, DIRTY] {
             bytes[figure..figure + PLACES].fill(0);
         }
         for (c, cell) in block.cells.iter().enumerate() {
             bytes[PLAIN + c] = cell.plain as u8;
-            bytes[OWNER + c] = cell.owner.into();
+            bytes[OWNER + c] = cell.owner.here().into();
             bytes[VALID + c] = cell.valid.into();
+            bytes[DIRTY + c] = (cell.owner == Owner::Dirty).into();
             put_words(&mut bytes[WORDS_OFFSET + WORDS_SIZE * c..], &cell.words);
         }
         bytes[BARRING..BARRING + PLACES * SET_SIZE].fill(0);

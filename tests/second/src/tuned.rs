@@ -1,12 +1,13 @@
 //! A yardstick of the benchmark: the same calls with the same checks, as fast plain Rust, on another record than the engine's.
 //!
-//! Its layout is the one the engine had before: a cell's figures and words side by side. It is known in this file alone (`encode` writes a rack in
-//! it), so the engine is compared with it by results and by the rack's figures. What it shows is what the layout is worth.
+//! Its layout is the one the engine had before, a cell's figures and words side by side, with the owner's mark as bit 1 of the owner's
+//! byte. It is known in this file alone (`encode` writes a rack in it), so the engine is compared with it by results and by the rack's
+//! figures. What it shows is what the layout is worth.
 //!
 //! Nothing is proved here. Soundness is one pass without branches on the record's contents: complaints are gathered in a number that is 0 for a
 //! sound record, and each block's tokens in one sum (plain tokens in the low half, owners in the high half).
 
-use crate::model::Rack;
+use crate::model::{self, Rack};
 use crate::record;
 
 const MESH: usize = 4;
@@ -17,6 +18,9 @@ const BLOCK: usize = 592;
 const CELL: usize = 35;
 const SETS: usize = 560;
 const OWNER: u32 = 1 << 16;
+/// The owner's byte: 0 where it is away.
+const CLEAN: u8 = 1;
+const DIRTY: u8 = 3;
 
 const DONE: u64 = 0;
 
@@ -52,17 +56,25 @@ pub fn length(blocks: usize) -> usize {
     BLOCKS + BLOCK * blocks
 }
 
+fn owner_byte(owner: model::Owner) -> u8 {
+    match owner {
+        model::Owner::Away => 0,
+        model::Owner::Dirty => DIRTY,
+        model::Owner::Clean => CLEAN,
+    }
+}
+
 /// Writes the figures of a rack over the front of a buffer that has room for them.
 pub fn encode(rack: &Rack, buffer: &mut [u8]) {
     let bytes = &mut buffer[..length(rack.blocks.len())];
     bytes[..MESH].copy_from_slice(&[rack.boards, rack.blocks.len() as u8, rack.tokens as u8, rack.mesh.len() as u8]);
     for (bytes, m) in bytes[MESH..].chunks_mut(MESSAGE).zip(&rack.mesh) {
-        bytes[..6].copy_from_slice(&[m.sender, m.target, m.block, m.plain as u8, m.owner.into(), m.data.into()]);
+        bytes[..6].copy_from_slice(&[m.sender, m.target, m.block, m.plain as u8, owner_byte(m.owner), m.data.into()]);
         record::put_words(&mut bytes[6..], &m.words);
     }
     for (bytes, block) in bytes[BLOCKS..].chunks_mut(BLOCK).zip(&rack.blocks) {
         for (bytes, c) in bytes.chunks_mut(CELL).zip(&block.cells) {
-            bytes[..3].copy_from_slice(&[c.plain as u8, c.owner.into(), c.valid.into()]);
+            bytes[..3].copy_from_slice(&[c.plain as u8, owner_byte(c.owner), c.valid.into()]);
             record::put_words(&mut bytes[3..], &c.words);
         }
         let sets = std::iter::once(&block.waiting).chain(block.barring.values());
@@ -213,9 +225,10 @@ fn sound(rec: &[u8]) -> bool {
         let (sender, target, block, plain, owner, data) = (m[0], m[1], m[2], m[3], m[4], m[5]);
         let words = le64(m, 6) | le64(m, 14) | le64(m, 22) | le64(m, 30);
         bad |= u32::from(sender > n) | u32::from(target > n) | u32::from(sender == target) | u32::from(block >= b);
-        bad |= u32::from(data > 1) | u32::from(owner > data) | u32::from(plain | owner == 0);
-        bad |= u32::from(data == 0) & u32::from(words != 0);
-        sums[usize::from(block & 31)] += u32::from(plain) + u32::from(owner) * OWNER;
+        bad |= u32::from(data > 1) | u32::from(owner > DIRTY) | u32::from(owner == 2) | u32::from(plain | owner == 0);
+        // without data: no words, no dirty owner, and a clean one for home alone
+        bad |= u32::from(data == 0) & (u32::from(words != 0) | u32::from(owner > CLEAN) | u32::from(owner != 0) & u32::from(target != 0));
+        sums[usize::from(block & 31)] += u32::from(plain) + u32::from(owner & CLEAN) * OWNER;
     }
     if bad != 0 {
         return false;
@@ -229,8 +242,8 @@ fn sound(rec: &[u8]) -> bool {
         let mut sum = *flying;
         for cell in bytes[..SETS].chunks_exact(CELL).take(cells) {
             let x = le32(cell, 0) & 0x00ff_ffff;
-            // marks above 1, the owner without valid, valid without a token
-            bad |= (x & 0x00fe_fe00) | (x >> 8 & !(x >> 16) & 1) | u32::from(x == 0x0001_0000);
+            // bits that no mark has, dirty without the owner, the owner without valid; then valid without a token
+            bad |= x & !(x << 1 & 0x0200 | x >> 8 & 0x0100) & 0x00fe_ff00 | u32::from(x == 0x0001_0000);
             sum += (x & 0xff) + (x >> 8 & 1) * OWNER;
         }
         bad |= sum ^ whole;
@@ -281,7 +294,7 @@ fn put_set(rec: &mut [u8], at: usize, set: u16) {
     rec[at..at + 2].copy_from_slice(&set.to_be_bytes());
 }
 
-/// Takes the tokens from the cell and appends the message.
+/// Takes the tokens from the cell and appends the message. The owner's byte is the cell's, or 0.
 #[inline(always)]
 fn send(rec: &mut [u8], c: u8, b: u8, target: u8, plain: u8, owner: u8, data: u8) -> u64 {
     let from = cell_at(c, b);
@@ -327,9 +340,10 @@ fn apply(rec: &mut [u8], step: Step) -> u64 {
                 return HOME;
             }
             let at = cell_at(c, b);
-            if rec[at] + rec[at + 1] < t {
+            if rec[at] + (rec[at + 1] & CLEAN) < t {
                 return SHORT;
             }
+            rec[at + 1] = DIRTY;
             let at = at + 3 + 4 * usize::from(w);
             rec[at..at + 4].copy_from_slice(&value);
             DONE
@@ -351,7 +365,7 @@ fn apply(rec: &mut [u8], step: Step) -> u64 {
             if plain > rec[at] || owner > rec[at + 1] {
                 return NOT_HELD;
             }
-            if owner > data {
+            if owner > data && (target != 0 || rec[at + 1] == DIRTY) {
                 return BARE_OWNER;
             }
             if data > rec[at + 2] {
@@ -360,7 +374,7 @@ fn apply(rec: &mut [u8], step: Step) -> u64 {
             if count == MESH_LIMIT {
                 return MESH_FULL;
             }
-            send(rec, c, b, target, plain, owner, data)
+            send(rec, c, b, target, plain, if owner == 1 { rec[at + 1] } else { 0 }, data)
         }
         Step::Deliver { position } => {
             if position >= count {
@@ -369,10 +383,13 @@ fn apply(rec: &mut [u8], step: Step) -> u64 {
             let from = MESH + MESSAGE * usize::from(position);
             let (target, b) = (rec[from + 1], rec[from + 2]);
             let to = cell_at(target, b);
-            rec[to] += rec[from + 3];
-            rec[to + 1] += rec[from + 4];
-            if rec[from + 5] == 1 {
-                rec[to + 2] = 1;
+            let (plain, owner, data) = (rec[from + 3], rec[from + 4], rec[from + 5]);
+            rec[to] += plain;
+            // at home it is clean
+            rec[to + 1] += if target == 0 { owner & CLEAN } else { owner };
+            // an owner without data is a clean one for home, which has its words
+            rec[to + 2] |= data | owner & CLEAN;
+            if data == 1 {
                 rec.copy_within(from + 6..from + MESSAGE, to + 3);
             }
             rec.copy_within(from + MESSAGE..MESH + MESSAGE * usize::from(count), from);
@@ -515,9 +532,9 @@ pub fn letter(rec: &[u8], component: u32, block: u32) -> u64 {
     }
     let at = cell_at(component as u8, block as u8);
     let (plain, owner, valid) = (rec[at], rec[at + 1], rec[at + 2]);
-    let letter = if plain + owner == rec[2] {
+    let letter = if plain + (owner & CLEAN) == rec[2] {
         b'M'
-    } else if owner == 1 {
+    } else if owner != 0 {
         b'O'
     } else if valid == 1 {
         b'S'

@@ -19,29 +19,38 @@ abbrev μ-loop : tie.MeasureT-loop
 loop-holds : tie.Need-loop-holds Inv-loop μ-loop
 loop-holds c = (search needs, sym (below-none (soundLane (c .before .args .s .now) (c .before .args .at))))
 
-add-mark-fine : tie.Need-add-lane-sound Inv-loop μ-loop
-add-mark-fine c = search needs
+add-lane-sound : tie.Need-add-lane-sound Inv-loop μ-loop
+add-lane-sound c = search needs
 
-shared-slice-read-mark-fine : tie.Need-shared-slice-read-lane-sound Inv-loop μ-loop
-shared-slice-read-mark-fine c = search needs
+shared-slice-read-lane-sound : tie.Need-shared-slice-read-lane-sound Inv-loop μ-loop
+shared-slice-read-lane-sound c = search needs
 
-add-mark-fine-2 : tie.Need-add-lane-sound-2 Inv-loop μ-loop
-add-mark-fine-2 c = search needs
+add-lane-sound-2 : tie.Need-add-lane-sound-2 Inv-loop μ-loop
+add-lane-sound-2 c = search needs
 
-add-mark-fine-3 : tie.Need-add-lane-sound-3 Inv-loop μ-loop
-add-mark-fine-3 c = search needs
+add-lane-sound-3 : tie.Need-add-lane-sound-3 Inv-loop μ-loop
+add-lane-sound-3 c = search needs
 
-shared-slice-read-mark-fine-2 : tie.Need-shared-slice-read-lane-sound-2 Inv-loop μ-loop
-shared-slice-read-mark-fine-2 c = search needs
+shared-slice-read-lane-sound-2 : tie.Need-shared-slice-read-lane-sound-2 Inv-loop μ-loop
+shared-slice-read-lane-sound-2 c = search needs
 
-add-mark-fine-4 : tie.Need-add-lane-sound-4 Inv-loop μ-loop
-add-mark-fine-4 c = search needs
+add-lane-sound-4 : tie.Need-add-lane-sound-4 Inv-loop μ-loop
+add-lane-sound-4 c = search needs
 
-add-mark-fine-5 : tie.Need-add-lane-sound-5 Inv-loop μ-loop
-add-mark-fine-5 c = search needs
+add-lane-sound-5 : tie.Need-add-lane-sound-5 Inv-loop μ-loop
+add-lane-sound-5 c = search needs
 
-shared-slice-read-mark-fine-3 : tie.Need-shared-slice-read-lane-sound-3 Inv-loop μ-loop
-shared-slice-read-mark-fine-3 c = search needs
+shared-slice-read-lane-sound-3 : tie.Need-shared-slice-read-lane-sound-3 Inv-loop μ-loop
+shared-slice-read-lane-sound-3 c = search needs
+
+add-lane-sound-6 : tie.Need-add-lane-sound-6 Inv-loop μ-loop
+add-lane-sound-6 c = search needs
+
+add-lane-sound-7 : tie.Need-add-lane-sound-7 Inv-loop μ-loop
+add-lane-sound-7 c = search needs
+
+shared-slice-read-lane-sound-4 : tie.Need-shared-slice-read-lane-sound-4 Inv-loop μ-loop
+shared-slice-read-lane-sound-4 c = search needs
 
 lane-sound-requires : tie.Need-lane-sound-requires Inv-loop μ-loop
 lane-sound-requires c κs = search needs
@@ -56,8 +65,8 @@ loop-less : tie.Need-loop-less Inv-loop μ-loop
 loop-less c = search needs
 
 loop-again : tie.Need-loop-again Inv-loop μ-loop
-loop-again c = let a = c .before .before .before .before .before .before .before .before .args in
-    let l = c .before .before .before .before .before .before .loop in
+loop-again c = let a = c .before .before .before .before .before .before .before .before .before .args in
+    let l = c .before .before .before .before .before .before .before .loop in
     (search needs, c .both .ensures ∙ (λ i. c .before .lane-sound .ensures i && l .inv .1 i) ∙ sym (below-next (soundLane (a .s .now) (a .at)) (l .component)))
 
 returns : tie.Need-returns Inv-loop μ-loop
@@ -74,14 +83,17 @@ lanes-sound-spec =
     Inv-loop
     μ-loop
     loop-holds
-    add-mark-fine
-    shared-slice-read-mark-fine
-    add-mark-fine-2
-    add-mark-fine-3
-    shared-slice-read-mark-fine-2
-    add-mark-fine-4
-    add-mark-fine-5
-    shared-slice-read-mark-fine-3
+    add-lane-sound
+    shared-slice-read-lane-sound
+    add-lane-sound-2
+    add-lane-sound-3
+    shared-slice-read-lane-sound-2
+    add-lane-sound-4
+    add-lane-sound-5
+    shared-slice-read-lane-sound-3
+    add-lane-sound-6
+    add-lane-sound-7
+    shared-slice-read-lane-sound-4
     lane-sound-requires
     both-requires
     add-component

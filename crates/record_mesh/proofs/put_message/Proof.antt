@@ -2,7 +2,7 @@
 use lib.ListN.{set, length-set}
 use mathlib.Core.List.{List}
 use native.Mathlib.Omega.{arith}
-use Rattle.spec_rack.specs.RecordLayout.{words, messageZeroOffset, messageLastZeroOffset, messageWordsOffset, wordsSize}
+use Rattle.spec_rack.specs.RecordLayout.{words, messageZeroOffset, messageWordsOffset, wordsSize}
 use Rattle.spec_base.specs.Layout.{modifyAt}
 use Prim.Native.Nat.{ℕ, _+_}
 use mathlib.Core.Path.{ap, _∙_}
@@ -40,14 +40,6 @@ slice-write-s-4 c = let a = c .before .before .before .before .before .before .b
     let kept = c .before .before .put-token-state .kept .0 ∙ same-three (a .s .now) (a .at) _ _ _ in
     omega (arith, kept)
 
-add-s-4 : tie.Need-add-s-4
-add-s-4 c = search needs
-
-slice-write-s-5 : tie.Need-slice-write-s-5
-slice-write-s-5 c = let a = c .before .before .before .before .before .before .before .args in
-    let kept = c .before .before .put-token-state .kept .0 ∙ same-three (a .s .now) (a .at) _ _ _ in
-    simp length-set (omega (arith, kept))
-
 add-put-words : tie.Need-add-put-words
 add-put-words c = search needs
 
@@ -59,14 +51,14 @@ put-words-requires c κs = let a = c .before .before .before .before .before .be
 same-length : tie.Need-same-length
 same-length c = let a = c .before .before .before .before .before .before .before .before .before .before .before .args in
     let t = c .before .before .before .before .before .before .put-token-state .last .0 in
-    c .before .before .put-words .kept .0 ∙ length-set (set t (a .at + messageZeroOffset) 0) (a .at + messageLastZeroOffset) 0 ∙ length-set t (a .at + messageZeroOffset) 0
+    c .before .before .put-words .kept .0 ∙ length-set t (a .at + messageZeroOffset) 0
     ∙ c .before .before .before .before .before .before .put-token-state .kept .0 ∙ same-three (a .s .now) (a .at) _ _ _
 
 returns : tie.Need-returns
 returns c = let s = c .before .before .before .before .before .before .before .before .before .before .before in
     let a = s .args in
     c .before .before .put-words .ensures
-    ∙ ap (λ (t : List ℕ). modifyAt (a .at + messageWordsOffset) wordsSize (words .write (a .m .words)) (set (set t (a .at + messageZeroOffset) 0) (a .at + messageLastZeroOffset) 0)) (c .before .before .before .before .before .before .put-token-state .ensures)
+    ∙ ap (λ (t : List ℕ). modifyAt (a .at + messageWordsOffset) wordsSize (words .write (a .m .words)) (set t (a .at + messageZeroOffset) 0)) (c .before .before .before .before .before .before .put-token-state .ensures)
     ∙ message-write (a .at) (a .m) (a .s .now) (s .pre)
 
 pub put-message-spec : {M : Type 1} → statement M
@@ -82,8 +74,6 @@ put-message-spec =
     put-token-state-requires
     add-s-3
     slice-write-s-4
-    add-s-4
-    slice-write-s-5
     add-put-words
     put-words-requires
     same-length

@@ -54,8 +54,8 @@ slice-write-rec-3 : tie.Need-slice-write-rec-3
 slice-write-rec-3 c = simp length-set (omega (arith, c .before .before .zero-fill3 .kept .0, c .before .before .before .before .before .before .zero-fill2 .kept .0, c .before .before .before .before .before .before .before .before .before .before .zero-fill .kept .0))
 
 same-length : tie.Need-same-length
-same-length c = let a = c .before .before .before .before .before .before .before .before .before .before .before .before .before .args in
-    three-kept (c .before .before .zero-fill3 .last .0) (a .at) (a .at + ownerOffset) (a .at + validOffset) _ _ _ ∙ c .before .before .zero-fill3 .kept .0 ∙ c .before .before .before .before .before .before .zero-fill2 .kept .0 ∙ c .before .before .before .before .before .before .before .before .before .before .zero-fill .kept .0
+same-length c =
+    three-kept (c .before .before .zero-fill3 .last .0) _ _ _ _ _ _ ∙ c .before .before .zero-fill3 .kept .0 ∙ c .before .before .before .before .before .before .zero-fill2 .kept .0 ∙ c .before .before .before .before .before .before .before .before .before .before .zero-fill .kept .0
 
 returns : tie.Need-returns
 returns c = let s = c .before .before .before .before .before .before .before .before .before .before .before .before .before in

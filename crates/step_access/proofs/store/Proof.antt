@@ -21,7 +21,7 @@ set-word-requires c κs =
     let known =
     store-passed (s .args .rec .now) (s .pre) (s .args .component) (s .args .block) (s .args .word) (s .args .value)
     (passes _ _ _ (k .store-check .ensures) (c .before .before .is-pass .ensures) (c .before .if1 .taken)) in
-    (record { whole = known .0 .whole; block = known .0 .block; component = omega (arith, known .0 .component) }, known .1)
+    (record { whole = known .0 .whole; block = known .0 .block; component = omega (arith, known .0 .component) }, known .1 .0, known .1 .1)
 
 same-length : tie.Need-same-length
 same-length c = search needs

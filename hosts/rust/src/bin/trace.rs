@@ -1,7 +1,7 @@
 //! Writes, reads and runs step records in a form for people: see the package's README.
 
 use hyaloneth::script::{assemble, disassemble, opening_line, records, reply_text, step_lines};
-use hyaloneth::{Cell, Message, Record, Refusal, Reply, View};
+use hyaloneth::{Cell, Message, Owner, Record, Refusal, Reply, View};
 use std::fmt::Write as _;
 use std::io::{self, Read, Write};
 use std::process::ExitCode;
@@ -238,8 +238,8 @@ fn block_table(out: &mut String, view: &View, block: u32) {
         let line = format!(
             "      {name:<8}  {:>5}  {:<5}  {:<5}  {letter:<6}  {}",
             cell.plain,
-            mark(cell.owner),
-            mark(cell.valid),
+            owner_mark(cell.owner).unwrap_or("-"),
+            if cell.valid { "yes" } else { "-" },
             words(&cell.words)
         );
         let _ = writeln!(out, "{}", line.trim_end());
@@ -259,8 +259,8 @@ fn block_table(out: &mut String, view: &View, block: u32) {
 
 /// Whether a block is as the opening left it. A board that is barred is so by one that waits.
 fn is_fresh(view: &View, block: u32) -> bool {
-    let home = Cell { plain: view.tokens() - 1, owner: true, valid: true, words: [0; 8] };
-    let board = Cell { plain: 0, owner: false, valid: false, words: [0; 8] };
+    let home = Cell { plain: view.tokens() - 1, owner: Owner::Clean, valid: true, words: [0; 8] };
+    let board = Cell { plain: 0, owner: Owner::Away, valid: false, words: [0; 8] };
     view.active(block).is_none()
         && (0..=view.boards())
             .all(|c| view.cell(c, block) == Some(if c == 0 { home } else { board }))
@@ -268,20 +268,25 @@ fn is_fresh(view: &View, block: u32) -> bool {
 
 fn message_line(message: &Message) -> String {
     let Message { sender, target, block, plain, owner, data, words: carried } = message;
+    // A comma on both sides of the mark: it is the owner's, not the data's.
+    let owner = match owner_mark(*owner) {
+        Some(mark) => format!(" owner, {mark}{}", if *data { "," } else { "" }),
+        None => String::new(),
+    };
     let line = format!(
-        "{sender} -> {target} block {block} plain {plain}{}{}  {}",
-        if *owner { " owner" } else { "" },
+        "{sender} -> {target} block {block} plain {plain}{owner}{}  {}",
         if *data { " data" } else { "" },
         words(carried)
     );
     line.trim_end().into()
 }
 
-fn mark(yes: bool) -> &'static str {
-    if yes {
-        "yes"
-    } else {
-        "-"
+/// The mark of an owner that is there.
+fn owner_mark(owner: Owner) -> Option<&'static str> {
+    match owner {
+        Owner::Away => None,
+        Owner::Dirty => Some("dirty"),
+        Owner::Clean => Some("clean"),
     }
 }
 

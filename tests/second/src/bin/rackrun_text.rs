@@ -7,6 +7,7 @@
 
 use second::blind;
 use second::examples::{self, Line, HOME_LOADS, HOME_LOADS_FAR, LISTING, SERVED_FAR, SERVED_HOME, SERVED_MIDDLE};
+use second::examples::{BARE_ALONE, BARE_CLAIMED, BARE_DIRTY, BARE_FULL, BARE_HOME_LOADS, BARE_RETURN};
 use second::lists::Lists;
 use second::model::{self, Answer, Rack, Reply, Step};
 use std::fmt::Write as _;
@@ -167,6 +168,9 @@ fn inputs() -> Vec<(String, Vec<u8>)> {
     let with = |tail: &[u8]| [&listing()[..], tail].concat();
 
     for name in [LISTING, SERVED_FAR, SERVED_HOME, SERVED_MIDDLE, HOME_LOADS, HOME_LOADS_FAR] {
+        add(name, example(name));
+    }
+    for name in [BARE_RETURN, BARE_DIRTY, BARE_ALONE, BARE_HOME_LOADS, BARE_CLAIMED, BARE_FULL] {
         add(name, example(name));
     }
     add("served_all", served_all());

@@ -1,9 +1,11 @@
 //! Damaged records: refused with 2 exactly where the model says unsound, and otherwise as the model has it.
 
 use super::{filled, Harness, Sizes, SPARE};
-use second::calls::{sound_rack, Call};
-use second::layout::{block_offset, BLOCKS, BOARDS, COUNT, HEADER_SIZE, MESSAGE_SIZE, TOKENS, WORDS};
-use second::model::{self, Rack, Step, HOME};
+use second::calls::Call;
+use second::layout::{
+    block_offset, message_offset, BLOCKS, BOARDS, COUNT, DIRTY, HEADER_SIZE, MESSAGE_DIRTY, MESSAGE_SIZE, PLACES, TOKENS, WORDS,
+};
+use second::model::{self, Owner, Rack, Step, HOME};
 use second::record;
 
 impl Harness {
@@ -18,9 +20,9 @@ impl Harness {
         steps
     }
 
-    fn damaged(&mut self, buffer: &[u8], probes: &[Vec<u8>], turn: usize) -> Result<(), String> {
-        self.coverage.damaged += 1;
-        self.coverage.damaged_sound += u64::from(sound_rack(buffer).is_ok());
+    /// A record that had this rack before, with one of the calls.
+    fn damaged(&mut self, before: &Rack, buffer: &[u8], probes: &[Vec<u8>], turn: usize) -> Result<(), String> {
+        self.coverage.damaged(before, buffer);
         let turn = turn % (probes.len() + 2);
         if let Some(step) = probes.get(turn) {
             self.call(buffer, &Call::Step(step))?;
@@ -47,7 +49,7 @@ impl Harness {
             for value in 0..=255 {
                 if value != kept && (whole || !room || value % 64 == 1) {
                     buffer[at] = value;
-                    self.damaged(&buffer, &probes, turn)?;
+                    self.damaged(&rack, &buffer, &probes, turn)?;
                     turn += 1;
                 }
             }
@@ -65,11 +67,17 @@ impl Harness {
             damaged.clone_from(&buffer);
             if turn % 2 == 0 {
                 for _ in 0..1 + self.rng.below(2) {
-                    let at = match self.rng.below(4) {
+                    let at = match self.rng.below(6) {
                         0 => self.rng.below(COUNT + 1),
                         1 => HEADER_SIZE + self.rng.below(MESSAGE_SIZE * rack.mesh.len().max(1)),
                         // what a block has in front of its words
                         2 => block_offset(self.rng.below(rack.blocks.len())) + self.rng.below(WORDS),
+                        3 => {
+                            let at = self.mark(&rack);
+                            damaged[at] = self.rng.pick(&[0, 1, 1, 2]);
+                            continue;
+                        }
+                        4 => self.mark(&rack),
                         _ => self.rng.below(buffer.len()),
                     };
                     damaged[at] = if self.rng.percent(50) { self.rng.byte() } else { damaged[at] ^ 1 << self.rng.below(8) };
@@ -81,9 +89,23 @@ impl Harness {
                 }
                 record::encode(&other, &mut damaged);
             }
-            self.damaged(&damaged, &probes, self.seed as usize + turn / 2)?;
+            self.damaged(&rack, &damaged, &probes, self.seed as usize + turn / 2)?;
         }
         Ok(())
+    }
+
+    /// Where a mark is: beside an owner, or of any component, known or not, or of any message.
+    fn mark(&mut self, rack: &Rack) -> usize {
+        let (block, component) = (self.rng.below(rack.blocks.len()), self.rng.below(PLACES));
+        let cell = |block: usize, component: usize| block_offset(block) + DIRTY + component;
+        let message = |i: usize| message_offset(i) + MESSAGE_DIRTY;
+        let owners = rack.mesh.iter().enumerate().filter(|(_, m)| m.owner.here());
+        match self.rng.below(4) {
+            0 => cell(block, component),
+            1 => message(self.rng.below(rack.mesh.len().max(1))),
+            2 if owners.clone().count() > 0 => message(self.rng.pick(&owners.map(|(i, _)| i).collect::<Vec<usize>>())),
+            _ => cell(block, rack.blocks[block].cells.iter().position(|cell| cell.owner.here()).unwrap_or(component)),
+        }
     }
 
     /// Changes figures of a rack as a faulty engine might.
@@ -94,14 +116,15 @@ impl Harness {
         let board = rng.below(16) as u8;
         let in_flight = rng.below(rack.mesh.len().max(1));
         let block = &mut rack.blocks[number];
-        match rng.below(14) {
+        let owner = rng.pick(&[Owner::Away, Owner::Dirty, Owner::Clean]);
+        match rng.below(17) {
             // tokens moved, made or lost
             0 | 1 if block.cells[from].plain > 0 => {
                 block.cells[from].plain -= 1;
                 block.cells[to].plain += 1;
             }
             2 => block.cells[from].plain ^= 1,
-            3 => block.cells[from].owner ^= true,
+            3 => block.cells[from].owner = owner,
             4 => block.cells[from].valid ^= true,
             5 => block.cells[from].words[0] ^= 1,
             6 => {
@@ -128,6 +151,16 @@ impl Harness {
                     set.insert(wait);
                 }
             }
+            // the mark of the block's owner, or of one in flight
+            13 | 14 => {
+                let cells = block.cells.iter_mut().map(|cell| &mut cell.owner);
+                for kept in cells.chain(rack.mesh.iter_mut().map(|message| &mut message.owner)).filter(|kept| kept.here()) {
+                    if rng.percent(60) {
+                        *kept = if *kept == Owner::Dirty { Owner::Clean } else { Owner::Dirty };
+                        return;
+                    }
+                }
+            }
             // the mesh
             _ if rack.mesh.is_empty() => {}
             11 => {
@@ -139,10 +172,18 @@ impl Harness {
                     0 => message.sender = from as u8,
                     1 => message.target = to as u8,
                     2 => message.data ^= true,
-                    3 => message.owner ^= true,
+                    3 => message.owner = owner,
                     4 => message.words[7] ^= 1,
                     5 => message.block = number as u8,
                     _ => message.plain ^= 1,
+                }
+            }
+            15 => {
+                // an owner loses its words, and perhaps its way or its mark
+                if let Some(message) = rack.mesh.iter_mut().find(|message| message.owner.here()) {
+                    (message.data, message.words) = (false, [0; model::WORDS]);
+                    message.target = if rng.percent(50) { HOME } else { message.target };
+                    message.owner = rng.pick(&[Owner::Dirty, Owner::Clean]);
                 }
             }
             _ => {
@@ -150,7 +191,9 @@ impl Harness {
                 let message = rack.mesh.remove(0);
                 let cell = &mut rack.blocks[usize::from(message.block)].cells[usize::from(message.target)];
                 cell.plain += message.plain;
-                cell.owner |= message.owner;
+                if message.owner.here() {
+                    cell.owner = message.owner;
+                }
                 cell.valid |= rng.percent(50);
             }
         }
@@ -166,7 +209,7 @@ impl Harness {
             let kept = long[at];
             for value in 0..=255 {
                 long[at] = value;
-                self.damaged(&long, &probes, value.into())?;
+                self.damaged(&rack, &long, &probes, value.into())?;
             }
             long[at] = kept;
         }
@@ -181,9 +224,17 @@ impl Harness {
         };
         let flying: fn(&Rack) -> bool = |rack| !rack.mesh.is_empty();
         let home: fn(&Rack) -> bool = |rack| rack.mesh.is_empty() && rack.blocks[0].waiting.is_empty();
-        for (sizes, wanted) in
-            [((1, 1, 1), flying), ((2, 1, 3), home), ((2, 1, 3), contended), ((3, 1, 6), contended), ((3, 2, 5), contended)]
-        {
+        let bare: fn(&Rack) -> bool = |rack| rack.mesh.iter().any(model::Message::bare);
+        let dirty: fn(&Rack) -> bool = |rack| rack.mesh.iter().any(|m| m.owner == Owner::Dirty);
+        for (sizes, wanted) in [
+            ((1, 1, 1), flying),
+            ((2, 1, 3), home),
+            ((2, 1, 3), contended),
+            ((2, 1, 3), bare),
+            ((2, 1, 3), dirty),
+            ((3, 1, 6), contended),
+            ((3, 2, 5), contended),
+        ] {
             self.every_byte(sizes, long, wanted)?;
         }
         let tries = if long { 100_000 } else { 6000 };

@@ -1,9 +1,9 @@
-//! The examples, also against the results that are stated for them.
+//! The examples, also against the results that are stated for them, and by the blind program.
 
 use super::{filled, Harness, SPARE};
 use second::calls::{sound_rack, Call};
 use second::examples::{self, Line};
-use second::{record, reply};
+use second::{blind, record, reply};
 
 impl Harness {
     pub fn examples(&mut self) -> Result<(), String> {
@@ -12,12 +12,23 @@ impl Harness {
             let mut buffer = filled(1, record::length(blocks as usize) + SPARE);
             let opened = self.call(&buffer, &Call::Open(boards, blocks, tokens))?;
             stated(example.name, example.opening, opened)?;
+            let mut blind = match blind::Rack::open(boards, blocks, tokens) {
+                Ok(blind) => blind,
+                Err(number) => {
+                    stated(example.name, example.opening, reply::of_blind(Err(number)))?;
+                    continue;
+                }
+            };
             for line in &example.lines {
                 buffer.clone_from(&self.comparison.after);
                 match line {
-                    Line::Step(bytes, says) => stated(example.name, says, self.call(&buffer, &Call::Step(bytes))?)?,
+                    Line::Step(bytes, says) => {
+                        stated(example.name, says, self.call(&buffer, &Call::Step(bytes))?)?;
+                        stated(example.name, says, reply::of_blind(blind.step(bytes)))?;
+                    }
                     Line::Letter(component, block, says) => {
                         stated(example.name, says, self.call(&buffer, &Call::Letter(*component, *block))?)?;
+                        stated(example.name, says, reply::of_blind_letter(blind.letter(*component, *block)))?;
                     }
                     Line::Target(target) => {
                         let rack = sound_rack(&buffer).expect("an example's record is sound");

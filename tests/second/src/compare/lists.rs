@@ -4,7 +4,8 @@ use super::{filled, Harness, Sizes, RACKS, SPARE};
 use second::calls::{byte_difference, hex, Layout, ENGINES, LAYOUTS, RECORD};
 use second::coverage::{kind_of, Coverage, LETTER};
 use second::lists::Lists;
-use second::model::{self, Answer, Cell, FlatMemory, Rack, Step, HOME};
+use second::model::{self, Answer, Cell, FlatMemory, Owner, Rack, Step, HOME};
+use second::owners::{Look, Trail};
 use second::{blind, record, reply};
 use std::collections::BTreeSet;
 
@@ -47,6 +48,11 @@ fn held(rack: &Rack) -> Vec<u32> {
     rack.blocks.iter().flat_map(|block| block.cells.iter().map(Cell::held)).collect()
 }
 
+/// An owner as the blind program shows it: whether it is dirty.
+fn shown(owner: Owner) -> Option<bool> {
+    owner.here().then_some(owner == Owner::Dirty)
+}
+
 /// A list in progress.
 pub(super) struct List {
     seed: u64,
@@ -55,6 +61,7 @@ pub(super) struct List {
     /// The rack of the program that was written from document 01 alone.
     blind: blind::Rack,
     flat: FlatMemory,
+    trail: Trail,
     /// The buffer as the model has it in each layout, and each engine's.
     want: Vec<Vec<u8>>,
     buffers: Vec<Vec<u8>>,
@@ -78,6 +85,7 @@ impl List {
         let mut list = List {
             seed,
             sizes,
+            trail: Trail::new(&rack),
             rack,
             blind,
             flat: FlatMemory::new(blocks),
@@ -99,6 +107,7 @@ impl List {
         let read = model::read(&bytes);
         let block = read.ok().and_then(|step| self.block_of(step));
         let before = held(&self.rack);
+        let look = read.ok().map(|step| Look::new(&self.rack, step));
         self.made.push(bytes);
         let reply = read.and_then(|step| self.rack.step(step));
         let want = reply::of_reply(reply);
@@ -115,9 +124,11 @@ impl List {
             let given = (engine.step)(&mut self.buffers[i], bytes);
             self.same(i, want, given)?;
         }
-        if let Ok(step) = read {
+        if let (Ok(step), Some(look)) = (read, look) {
             coverage.at_home(&self.rack, step, reply);
+            coverage.owners(self.trail.step(&look, step, reply));
             reply.map_or(Ok(()), |answer| self.demand(step, answer, &before, coverage))?;
+            reply.ok().and(block).map_or(Ok(()), |block| self.home_kept(block))?;
         }
         self.replies.push(want);
         coverage.most_in_flight = coverage.most_in_flight.max(self.rack.mesh.len());
@@ -169,11 +180,12 @@ impl List {
     /// What the blind program has of a block and in flight is what the model has.
     fn same_state(&self, block: usize) -> Result<(), String> {
         let mine = &self.rack.blocks[block];
-        let cells = (0..).zip(&mine.cells).all(|(c, cell)| self.blind.cell(c, block) == (cell.plain, cell.owner, cell.valid, cell.words));
+        let cell = |cell: &Cell| (cell.plain, shown(cell.owner), cell.valid, cell.words);
+        let cells = (0..).zip(&mine.cells).all(|(c, mine)| self.blind.cell(c, block) == cell(mine));
         let list = |set: &BTreeSet<u8>| set.iter().map(|&board| board.into()).collect::<Vec<u32>>();
         let claims = self.blind.claims(block) == (list(&mine.waiting), mine.barring.values().map(list).collect());
         let mesh = self.rack.mesh.iter();
-        let mesh = mesh.map(|m| (m.sender.into(), m.target.into(), m.block.into(), m.plain, m.owner, m.data, m.words));
+        let mesh = mesh.map(|m| (m.sender.into(), m.target.into(), m.block.into(), m.plain, shown(m.owner), m.data, m.words));
         if cells && claims && self.blind.mesh().into_iter().eq(mesh) {
             return Ok(());
         }
@@ -215,6 +227,15 @@ impl List {
                 }
             }
             _ => {}
+        }
+        Ok(())
+    }
+
+    /// What lets a clean owner go home bare: home has the flat memory's words of its block.
+    fn home_kept(&self, block: u8) -> Result<(), String> {
+        let home = &self.rack.blocks[usize::from(block)].cells[usize::from(HOME)];
+        if self.rack.clean(block) && home.words != *self.flat.words(block) {
+            return Err(self.case(&format!("the owner of block {block} is clean, and home has other words than the flat memory")));
         }
         Ok(())
     }

@@ -1,4 +1,4 @@
--- `record::cells::token_state` meets its contract: one byte of each of three lanes.
+-- `record::cells::token_state` meets its contract: one byte of each of four lanes.
 use native.Mathlib.Nat.{add-zero}
 use Rattle.record.proofs.FieldAccess.{marks-is}
 use borrow.Author.Needs.{needs}
@@ -17,13 +17,34 @@ byte-at-requires-2 c κs = search needs
 byte-at-requires-3 : tie.Need-byte-at-requires-3
 byte-at-requires-3 c κs = search needs
 
+owner-of-requires : tie.Need-owner-of-requires
+owner-of-requires c κs = search needs
+
+byte-at-requires-4 : tie.Need-byte-at-requires-4
+byte-at-requires-4 c κs = search needs
+
 returns : tie.Need-returns
-returns c = let s = c .before .before .before .before .before in
-    rw (c .before .before .byte-at .ensures, c .before .byte-at2 .ensures, c .byte-at3 .ensures, add-zero (c .before .before .before .plain-offset .result))
-    (marks-is (s .args .rec .now) (λ k. c .before .before .before .before .shared-slice-known .given k .fits) (s .args .block) (s .args .component) (s .pre)
-    (c .before .before .before .plain-offset .result) (c .before .before .before .plain-offset .ensures))
+returns c = let s = c .before .before .before .before .before .before .before in
+    let place = c .before .before .before .before .before .plain-offset in
+    rw (
+      c .before .owner-of .ensures,
+      c .before .before .before .before .byte-at .ensures,
+      c .before .before .before .byte-at2 .ensures,
+      c .before .before .byte-at3 .ensures,
+      c .byte-at4 .ensures,
+      add-zero (place .result),
+    )
+    (marks-is (s .args .rec .now) (λ k. c .before .before .before .before .before .before .shared-slice-known .given k .fits) (s .args .block) (s .args .component)
+    (s .pre) (place .result) (place .ensures))
 
 pub token-state-spec : {M : Type 1} → statement M
 token-state-spec =
     tie.close
-    (tie.spec plain-offset-requires byte-at-requires byte-at-requires-2 byte-at-requires-3 returns)
+    (tie.spec
+    plain-offset-requires
+    byte-at-requires
+    byte-at-requires-2
+    byte-at-requires-3
+    owner-of-requires
+    byte-at-requires-4
+    returns)

@@ -1,11 +1,17 @@
 -- `step_checks::tokens::with_tokens` meets its contract, by the law of state with a message's tokens.
-use borrow.Author.Needs.{needs}
 use Rattle.step_checks.proofs.TokenLaws.{more-is}
+use borrow.Author.Needs.{needs}
 use Rattle.step_checks.proofs.tokens.with_tokens.Statement.{statement}
 use Rattle.step_checks.proofs.tokens.with_tokens.Tie as tie
 
-add-t3 : tie.Need-add-t3
-add-t3 c = search needs
+joined-owner-requires : tie.Need-joined-owner-requires
+joined-owner-requires c κs = search needs
+
+add-t6 : tie.Need-add-t6
+add-t6 c = search needs
+
+is-present-requires : tie.Need-is-present-requires
+is-present-requires c κs = search needs
 
 either-requires : tie.Need-either-requires
 either-requires c κs = search needs
@@ -14,7 +20,20 @@ either-requires-2 : tie.Need-either-requires-2
 either-requires-2 c κs = search needs
 
 returns : tie.Need-returns
-returns c = λ x m told e. more-is (c .before .before .before .before .args .state) x told (c .before .before .before .before .args .header) m e (c .before .either .result) (c .either2 .result) (c .before .either .ensures) (c .either2 .ensures)
+returns c = let s = c .before .before .before .before .before .before in
+    let a = s .args in
+    let owner = c .before .before .before .before .before .joined-owner in
+    let here = c .before .before .is-present in
+    λ x m told e. more-is (a .state) x told (a .header) m e (s .pre .1) (owner .result) (here .result) (c .before .either .result) (c .either2 .result)
+    (owner .ensures) (here .ensures) (c .before .either .ensures) (c .either2 .ensures)
 
 pub with-tokens-spec : {M : Type 1} → statement M
-with-tokens-spec = tie.close (tie.spec add-t3 either-requires either-requires-2 returns)
+with-tokens-spec =
+    tie.close
+    (tie.spec
+    joined-owner-requires
+    add-t6
+    is-present-requires
+    either-requires
+    either-requires-2
+    returns)

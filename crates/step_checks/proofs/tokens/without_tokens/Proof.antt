@@ -1,24 +1,27 @@
 -- `step_checks::tokens::without_tokens` meets its contract, by the law of removed tokens.
-use borrow.Author.Needs.{needs}
 use Rattle.step_checks.proofs.TokenLaws.{less-is}
+use borrow.Author.Needs.{needs}
 use Rattle.step_checks.proofs.tokens.without_tokens.Statement.{statement}
 use Rattle.step_checks.proofs.tokens.without_tokens.Tie as tie
 
-sub-t5 : tie.Need-sub-t5
-sub-t5 c = search needs
+kept-owner-requires : tie.Need-kept-owner-requires
+kept-owner-requires c κs = search needs
 
-both-requires : tie.Need-both-requires
-both-requires c κs = search needs
+sub-t7 : tie.Need-sub-t7
+sub-t7 c = search needs
 
 held-requires : tie.Need-held-requires
 held-requires c κs = search needs
 
-both-requires-2 : tie.Need-both-requires-2
-both-requires-2 c κs = search needs
+both-requires : tie.Need-both-requires
+both-requires c κs = search needs
 
 returns : tie.Need-returns
-returns c = λ x told. less-is (c .before .before .before .before .args .state) x told (c .before .before .before .before .args .plain) (c .before .before .before .before .args .owner) (c .before .before .both .result) (c .both2 .result) (c .before .held .result)
-    (c .before .before .both .ensures) (c .before .held .ensures) (c .both2 .ensures)
+returns c = let a = c .before .before .before .before .args in
+    let owner = c .before .before .before .kept-owner in
+    λ x told. less-is (a .state) x told (a .plain) (a .owner) (owner .result) (c .both .result) (c .before .held .result)
+    (owner .ensures) (c .before .held .ensures) (c .both .ensures)
 
 pub without-tokens-spec : {M : Type 1} → statement M
-without-tokens-spec = tie.close (tie.spec sub-t5 both-requires held-requires both-requires-2 returns)
+without-tokens-spec =
+    tie.close (tie.spec kept-owner-requires sub-t7 held-requires both-requires returns)

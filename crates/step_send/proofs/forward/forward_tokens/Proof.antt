@@ -25,11 +25,14 @@ token-state-requires : tie.Need-token-state-requires
 token-state-requires c κs = let s = c .before .before .before .before .before in
     forward-passed (s .args .rec .now) (s .pre .0) (s .args .component) (s .args .block) (s .pre .1) .in-cell
 
+is-present-requires : tie.Need-is-present-requires
+is-present-requires c κs = search needs
+
 send-tokens-requires : tie.Need-send-tokens-requires
 send-tokens-requires c κs =
-    let s = c .before .before .before .before .before .before .before in
+    let s = c .before .before .before .before .before .before .before .before in
     let can = forward-passed (s .args .rec .now) (s .pre .0) (s .args .component) (s .args .block) (s .pre .1) in
-    record { ready = can .ready; in-cell = can .in-cell; enough = omega (arith, c .before .token-state .ensures .plain); room = can .room }
+    record { ready = can .ready; in-cell = can .in-cell; enough = omega (arith, c .before .before .token-state .ensures .plain); room = can .room }
 
 same-length : tie.Need-same-length
 same-length c = search needs
@@ -37,12 +40,18 @@ same-length c = search needs
 returns : tie.Need-returns
 unfolding after
 returns c =
-    let place = c .before .before .before .before .before .before .before in
+    let told = c .before .before .before .before .before in
+    let board = told .before .before in
+    let place = board .before in
     let s = place .before .before .before in
     let can = forward-passed (s .args .rec .now) (s .pre .0) (s .args .component) (s .args .block) (s .pre .1) in
-    forwarded-is (s .args .rec .now) (s .args .component) (s .args .block) (c .before .before .before .before .before .before .active-at .result) (c .before .before .before .before .token-state .result)
-    (c .before .before .before .before .before .before .active-at .ensures (boardsIn (s .args .rec .now)) ∙ ap active (claims-read (s .args .rec .now) (s .pre .0 .whole) (s .args .block) (can .in-cell .block) (place .claims-offset .result) (place .claims-offset .ensures) (λ k. place .before .before .slice-known .given k .fits)))
-    (c .before .before .before .before .token-state .ensures) (c .before .before .send-tokens .last .0) (c .before .before .send-tokens .ensures)
+    let here = c .before .before .before .before .is-present in
+    forwarded-is (s .args .rec .now) (s .args .component) (s .args .block) (board .active-at .result) (told .token-state .result) (here .result)
+    (board .active-at .ensures (boardsIn (s .args .rec .now))
+    ∙ ap active
+    (claims-read (s .args .rec .now) (s .pre .0 .whole) (s .args .block) (can .in-cell .block) (place .claims-offset .result) (place .claims-offset .ensures)
+    (λ k. place .before .before .slice-known .given k .fits)))
+    (told .token-state .ensures) (here .ensures) (c .before .before .send-tokens .last .0) (c .before .before .send-tokens .ensures)
 
 pub forward-tokens-spec : {M : Type 1} → statement M
 forward-tokens-spec =
@@ -51,6 +60,7 @@ forward-tokens-spec =
     claims-offset-requires
     active-at-requires
     token-state-requires
+    is-present-requires
     send-tokens-requires
     same-length
     returns)

@@ -59,7 +59,7 @@ returns-2 c =
     let s = c8 .before .before in
     line-is OffRack (c .line3 .ensures) (target-is _ _ _ _ (c8 .off-rack .ensures) (c7 .if1 .left))
     (line-is SelfSend (c2 .line2 .ensures) refl
-    (line-is Claimed (c3 .line .ensures) (stop .claimed .ensures ∙ (λ i. not (eqb (c4 .waiting-set .ensures i) 0))) (c5 .token-lines .ensures ∙ marks-tell (c6 .token-state .ensures) (s .args .plain) (s .args .owner) (s .args .«data») (meshFull (get (s .args .rec .now))))))
+    (line-is Claimed (c3 .line .ensures) (stop .claimed .ensures ∙ (λ i. not (eqb (c4 .waiting-set .ensures i) 0))) (c5 .token-lines .ensures ∙ marks-tell (c6 .token-state .ensures) (s .args .target) (s .args .plain) (s .args .owner) (s .args .«data») (meshFull (get (s .args .rec .now))))))
 
 pub send-check-spec : {M : Type 1} → statement M
 send-check-spec =

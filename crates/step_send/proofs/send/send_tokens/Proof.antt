@@ -8,7 +8,7 @@ token-state-requires : tie.Need-token-state-requires
 token-state-requires c κs = search needs
 
 append-message-requires : tie.Need-append-message-requires
-append-message-requires c κs = search needs
+append-message-requires c κs = (c .before .before .before .before .pre, c .before .token-state .ensures .owner)
 
 without-tokens-requires : tie.Need-without-tokens-requires
 without-tokens-requires c κs = search needs

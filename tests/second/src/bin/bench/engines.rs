@@ -2,7 +2,7 @@
 
 use crate::rows::Row;
 use second::calls::{Layout, LAYOUTS};
-use second::model::{self, Rack, Refusal, Step, HOME};
+use second::model::{self, Owner, Rack, Refusal, Step, HOME};
 use second::{best, engine, reply, tuned};
 
 pub struct Engine {
@@ -14,6 +14,8 @@ pub struct Engine {
     pub serves: bool,
     /// Whether a load at home is as one at a board. In an archive from before it gives 4.
     pub reads_home: bool,
+    /// Whether a clean owner may go home bare. In an archive from before it gives 12, and a record has no marks.
+    pub takes_bare: bool,
 }
 
 impl Engine {
@@ -25,22 +27,44 @@ impl Engine {
     ) -> Engine {
         let layout = layout_of(length);
         let given = |rack: &Rack, asked: Step| step(&mut encoded(rack, layout), &model::write(asked));
+        let refuses = |rack: &Rack, asked: Step, refusal: Refusal| given(rack, asked) == reply::refused(refusal);
         let mut rack = Rack::open(1, 1, 1).expect("sizes in range");
-        let reads_home = given(&rack, Step::Load { component: HOME, block: 0, word: 0 }) != reply::refused(Refusal::Home);
+        let reads_home = !refuses(&rack, Step::Load { component: HOME, block: 0, word: 0 }, Refusal::Home);
         rack.step(Step::Send { component: HOME, block: 0, target: 1, plain: 0, owner: true, data: true }).expect("home has the owner");
         let serves = given(&rack, Step::Deliver { position: 0 }) != reply::done(0);
-        Engine { name, layout, step, run, serves, reads_home }
+        rack.step(Step::Deliver { position: 0 }).expect("the owner is in flight");
+        let bare = Step::Send { component: 1, block: 0, target: HOME, plain: 0, owner: true, data: false };
+        let takes_bare = !refuses(&rack, bare, Refusal::BareOwner);
+        Engine { name, layout, step, run, serves, reads_home, takes_bare }
     }
 
-    /// Whether its replies are these, or what an archive from before gives in their place: done where a deliver says whom it served, and 4 for a load
-    /// at home. A word, 5 or 6 does not tell where a load was, nor 5 and 6 a load from a forward or a send: 4 is taken for any of them.
+    /// The record of a rack in its bytes. For an archive from before there were marks, a record with one is not sound: every owner is clean
+    /// there.
+    pub fn encoded(&self, rack: &Rack) -> Vec<u8> {
+        if self.takes_bare {
+            return encoded(rack, self.layout);
+        }
+        let mut rack = rack.clone();
+        let cells = rack.blocks.iter_mut().flat_map(|block| &mut block.cells).map(|cell| &mut cell.owner);
+        for owner in cells.chain(rack.mesh.iter_mut().map(|message| &mut message.owner)).filter(|owner| owner.here()) {
+            *owner = Owner::Clean;
+        }
+        encoded(&rack, self.layout)
+    }
+
+    /// Whether its replies are these, or what an archive from before gives in their place: done where a deliver says whom it served, and 4
+    /// for a load at home. A word, 5 or 6 does not tell where a load was, nor 5 and 6 a load from a forward or a send: 4 is taken for any
+    /// of them. Where it gives 12 for an owner that goes home bare, its rack is another one from then on, and the replies behind are not
+    /// compared.
     pub fn agrees(&self, replies: &[u64], want: &[u64]) -> bool {
         let load = |reply: u64| reply >> 56 == 2 || [Refusal::NoToken, Refusal::NoData].map(reply::refused).contains(&reply);
         let same = |reply: u64, want: u64| match want >> 56 {
             4 if !self.serves => reply == reply::done(0),
             _ => reply == want || !self.reads_home && load(want) && reply == reply::refused(Refusal::Home),
         };
-        replies.len() == want.len() && replies.iter().zip(want).all(|(&reply, &want)| same(reply, want))
+        let parts = |(&reply, &want)| !self.takes_bare && want == reply::done(0) && reply == reply::refused(Refusal::BareOwner);
+        let mut compared = replies.iter().zip(want).take_while(|&both| !parts(both));
+        replies.len() == want.len() && compared.all(|(&reply, &want)| same(reply, want))
     }
 }
 
@@ -60,6 +84,13 @@ pub fn all() -> Vec<Engine> {
     }
     for engine in all.iter().filter(|engine| !engine.reads_home) {
         println!("For a load at home {} gives 4, where the others answer it as at a board.", engine.name);
+        println!();
+    }
+    for engine in all.iter().filter(|engine| !engine.takes_bare) {
+        println!(
+            "For an owner that goes home bare {} gives 12, where the others take it; what it does behind that is not the same.",
+            engine.name
+        );
         println!();
     }
     all
@@ -84,9 +115,9 @@ pub struct Records {
 }
 
 impl Records {
-    /// The records of a row in the bytes of a layout.
-    pub fn new(row: &Row, layout: &Layout) -> Records {
-        let fresh: Vec<Vec<u8>> = row.works.iter().map(|work| encoded(&work.rack, layout)).collect();
+    /// The records of a row in the bytes of an engine.
+    pub fn new(row: &Row, engine: &Engine) -> Records {
+        let fresh: Vec<Vec<u8>> = row.works.iter().map(|work| engine.encoded(&work.rack)).collect();
         Records { used: fresh.clone(), fresh }
     }
 

@@ -59,7 +59,7 @@ impl Counter {
 
 /// Instructions a step.
 fn measure(counter: &mut Counter, row: &Row, call: Call, engine: &Engine) -> Result<f64, String> {
-    let mut records = Records::new(row, engine.layout);
+    let mut records = Records::new(row, engine);
     let (order, runs) = (row.order(STEPS), row.runs());
     let mut replies = vec![0; order.len()];
     let total = counter.count(|| match call {
@@ -108,8 +108,7 @@ pub fn table(out: &str) -> Result<(), String> {
     println!("{}", "|---".repeat(7 + names.len()) + "|");
     for row in rows::all(STEPS) {
         for call in [Call::Step, Call::Run] {
-            let nothing =
-                Engine { name: "nothing", layout: engines[0].layout, step: no_step, run: no_run, serves: false, reads_home: false };
+            let nothing = Engine { name: "nothing", step: no_step, run: no_run, ..engines[0] };
             let loops = measure(&mut counter, &row, call, &nothing)?;
             let mut counts = Vec::new();
             for engine in &engines {

@@ -1,7 +1,8 @@
-//! The rows of the benchmark: racks in some state, with seeded lists that keep them in such a state; deliveries alone; and loads alone.
+//! The rows of the benchmark: racks in some state, with seeded lists that keep them in such a state; deliveries alone; loads alone; and
+//! blocks that go to a board and come back, with data or bare.
 
 use second::lists::{Lists, Mood};
-use second::model::{self, Rack, Step, HOME, MESH_LIMIT, WORDS};
+use second::model::{self, Cell, Rack, Step, HOME, MESH_LIMIT, WORDS};
 use second::rng::Rng;
 use std::ops::Range;
 
@@ -74,6 +75,10 @@ pub fn all(steps: usize) -> Vec<Row> {
     let sizes = (15, 32, 64);
     rows.push(loads("loads at home", sizes, opened(sizes), steps));
     rows.push(loads("loads at boards", sizes, carrying(&mut Rng::new(0), sizes, 0), steps));
+    for sizes in [(2, 1, 3), (15, 32, 64)] {
+        rows.push(returns("gives back with data", sizes, true, steps));
+        rows.push(returns("gives back bare", sizes, false, steps));
+    }
     rows
 }
 
@@ -221,6 +226,35 @@ fn loads(name: &'static str, sizes: Sizes, rack: Rack, steps: usize) -> Row {
     row
 }
 
+/// Blocks that no board stores to: home sends all tokens of one to a board, with data, and that gives them back, with data or bare.
+fn returns(name: &'static str, sizes: Sizes, data: bool, steps: usize) -> Row {
+    let (boards, blocks, tokens) = sizes;
+    let mut rng = Rng::new(0);
+    let mut row = Row::new(name, sizes, steps);
+    let mut rack = opened(sizes);
+    let mut work = Work::new(rack.clone());
+    let mut looks = 0;
+    while work.cuts.len() < steps {
+        let (block, board) = (rng.below(blocks as usize) as u8, 1 + rng.below(boards as usize) as u8);
+        let send = |component, target, data| Step::Send { component, block, target, plain: tokens as u8 - 1, owner: true, data };
+        let deliver = Step::Deliver { position: 0 };
+        let looks_now = work.cuts.len().is_multiple_of(200);
+        for step in [send(HOME, board, true), deliver, send(board, HOME, data), deliver] {
+            rack.step(step).expect("the sender has the tokens, and its owner is clean");
+            row.in_flight += rack.mesh.len() as f64;
+            if looks_now {
+                looks += rack.blocks.len();
+                row.look(&rack);
+            }
+            work.push(step);
+        }
+    }
+    row.works.push(work);
+    row.accepted = row.steps();
+    row.average(looks);
+    row
+}
+
 /// Each block goes to a board, which stores words of its own. Then so many messages with data go from such boards to others, one token with each.
 fn carrying(rng: &mut Rng, sizes: Sizes, in_flight: usize) -> Rack {
     let (boards, blocks, tokens) = sizes;
@@ -263,21 +297,34 @@ fn next(lists: &mut Lists, rack: &Rack, state: State) -> Step {
     };
     loop {
         let step = lists.in_mood(rack, mood);
-        if state != State::Copies || !empties(rack, step) {
+        if !goes_bare(rack, step) && (state != State::Copies || !empties(rack, step)) {
             return step;
         }
     }
 }
 
+fn cell(rack: &Rack, component: u8, block: u8) -> Option<&Cell> {
+    rack.blocks.get(usize::from(block)).and_then(|block| block.cells.get(usize::from(component)))
+}
+
 /// Whether the step takes the last token that a component has of a block.
 fn empties(rack: &Rack, step: Step) -> bool {
-    let held = |component: u8, block: u8| {
-        let cell = rack.blocks.get(usize::from(block)).and_then(|block| block.cells.get(usize::from(component)));
-        cell.map_or(0, model::Cell::held)
-    };
     match step {
-        Step::Send { component, block, plain, owner, .. } => u32::from(plain) + u32::from(owner) == held(component, block),
+        Step::Send { component, block, plain, owner, .. } => {
+            u32::from(plain) + u32::from(owner) == cell(rack, component, block).map_or(0, Cell::held)
+        }
         Step::Forward { .. } => true,
+        _ => false,
+    }
+}
+
+/// Whether the step sends home an owner that may go bare. An archive from before does not take it and would then do something else, so rows
+/// that compare archives have no such step.
+fn goes_bare(rack: &Rack, step: Step) -> bool {
+    match step {
+        Step::Send { component, block, target, owner: true, data: false, .. } => {
+            cell(rack, component, block).is_some_and(|cell| cell.owner.may_go_bare(target))
+        }
         _ => false,
     }
 }

@@ -107,7 +107,7 @@ fn measure(row: &Row, call: Call, engines: &[Engine]) -> Vec<Vec<f64>> {
         Call::Run => &order[..],
     };
     let mut replies = vec![0; row.steps()];
-    let mut records: Vec<Records> = engines.iter().map(|engine| Records::new(row, engine.layout)).collect();
+    let mut records: Vec<Records> = engines.iter().map(|engine| Records::new(row, engine)).collect();
     let mut first: Option<Vec<u64>> = None;
     let mut rounds = Vec::new();
     for _ in 0..ROUNDS {

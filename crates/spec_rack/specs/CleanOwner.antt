@@ -1,0 +1,171 @@
+-- Document 02, No. 2: a clean owner may go home bare, that is without data. The definitions are in Rack.antt (the mark), Rules.antt (what a store, a send and
+-- a deliver do with it; line 12 of a send) and Soundness.antt; here is what they mean for a sender, for home and for the flat memory, and what stays of
+-- document 01.
+use Prim.Native.Nat.{ℕ, _+_, _<_}
+use mathlib.Core.Path.{_≡_}
+use mathlib.Core.Bool.{Bool, true, false, not, cond, _&&_, _||_}
+use mathlib.Core.List.{List, [], _∷_}
+use lib.ListN.{length, getD}
+use lib.Dec.{eqb, ltb}
+use Rattle.spec_base.specs.Folds.{toℕ, removeAt}
+use Rattle.spec_base.specs.Number.{Bytes}
+use Rattle.spec_wire.specs.declared.Refusal.the-variants.{OffRack, NoData, SelfSend, Claimed, Empty, NotHeld, BareOwner, MeshFull, NoMessage}
+use Rattle.spec_wire.specs.declared.Check.{Check}
+use Rattle.spec_wire.specs.declared.Check.the-variants.{Pass}
+use Rattle.spec_wire.specs.Refusals.{when_refuse_else_}
+use Rattle.spec_wire.specs.declared.Step.{Step}
+use Rattle.spec_wire.specs.declared.Step.the-variants.{Load, Store, Send, Deliver, Raise, Lower, Forward}
+use Rattle.spec_rack.specs.Claims.{unclaimed}
+use Rattle.spec_rack.specs.declared.Owner.the-variants.{Away, Dirty, Clean}
+use Rattle.spec_rack.specs.declared.Message.{Message}
+use Rattle.spec_rack.specs.declared.Answer.the-variants.{Done}
+use Rattle.spec_rack.specs.declared.Answer.{Answer}
+use Rattle.spec_rack.specs.declared.Reply.{Reply}
+use Rattle.spec_rack.specs.declared.Reply.the-variants.{Accepted, Refused}
+use Rattle.spec_rack.specs.Rack.{Cell, Rack, isHome, present, clean, mayGoBare, claimsAt, cellAt, messageAt, fullCell}
+use Rattle.spec_rack.specs.Soundness.{sound}
+use Rattle.spec_rack.specs.Rules.{Outcome, accepted, settled, opening, rules, withWord, withoutTokens, message, sent, joined, withTokens, withCell, answer, offRack, meshFull, pastMesh, reply, rackAfter}
+use Rattle.spec_rack.specs.FlatMemory.{blank, memoryAfter}
+use Rattle.spec_rack.specs.RecordLayout.{get}
+use Rattle.spec_rack.specs.Opening.{openReply, openAfter}
+use Rattle.spec_rack.specs.Lists.{ruledReply, ruledAfter, run, rackReplies, rackAccesses, runAll, repliesOf, after, accesses}
+
+-- ---- the mark: fresh owners are clean, a store makes the owner dirty, it becomes clean on delivery to home, and otherwise it travels as it is
+
+pub record Marks : Type 0 where
+  pub fresh-clean : (t : ℕ) → fullCell t .owner ≡ Clean
+  -- whatever the word and the value, also where the value is there already
+  pub stored-dirty : (x : Cell) (w v : ℕ) → present (x .owner) ≡ true → withWord x w v .owner ≡ Dirty
+  -- a message has the sender's owner, with data or without, to home or to a board; then the sender has none
+  pub sent : (x : Cell) (c b t p : ℕ) (d : Bool) → message x c b t p true d .header .owner ≡ x .owner
+  pub sent-away : (x : Cell) (p : ℕ) → withoutTokens x p true .owner ≡ Away
+  -- a message of plain tokens has none, and the sender's stays as it is
+  pub plain-sent : (x : Cell) (c b t p : ℕ) (d : Bool) → message x c b t p false d .header .owner ≡ Away
+  pub plain-kept : (x : Cell) (p : ℕ) → withoutTokens x p false .owner ≡ x .owner
+  -- delivered to home it is clean, to a board it is as it was; plain tokens leave the target's
+  pub home : (x : Cell) (m : Message) → isHome (m .header .target) ≡ true → present (m .header .owner) ≡ true → withTokens x m .owner ≡ Clean
+  pub board : (x : Cell) (m : Message) → isHome (m .header .target) ≡ false → present (m .header .owner) ≡ true → withTokens x m .owner ≡ m .header .owner
+  pub plain-delivered : (x : Cell) (m : Message) → m .header .owner ≡ Away → withTokens x m .owner ≡ x .owner
+
+-- ---- before: document 01's send, with 12 for every owner without data, and its deliver, which makes valid by data alone. Every other step is by the rules
+-- of today; the marks are kept as today, and decide nothing.
+
+abbrev pub sendCheckBefore : Rack → ℕ → ℕ → ℕ → ℕ → Bool → Bool → Check
+sendCheckBefore r c b t p o d =
+    when offRack r c b || ltb (r .boards) t refuse OffRack else
+    when eqb c t refuse SelfSend else
+    when not (unclaimed (claimsAt r b)) refuse Claimed else
+    when eqb (p + toℕ o) 0 refuse Empty else
+    when ltb (cellAt r b c .plain) p || o && not (present (cellAt r b c .owner)) refuse NotHeld else
+    when o && not d refuse BareOwner else
+    when d && not (cellAt r b c .valid) refuse NoData else
+    when meshFull r refuse MeshFull else
+    Pass
+
+abbrev pub withTokensBefore : Cell → Message → Cell
+withTokensBefore x m =
+    record {
+      plain = x .plain + m .header .plain;
+      owner = joined (x .owner) (m .header .owner) (m .header .target);
+      valid = x .valid || m .header .«data»;
+      words = cond (m .header .«data») (m .words) (x .words);
+    }
+
+abbrev pub deliveredBefore : Rack → ℕ → Rack
+deliveredBefore r i =
+    let m = messageAt r i in
+    let b = m .header .block in
+    let c = m .header .target in
+    withCell r b c (withTokensBefore (cellAt r b c) m) (removeAt (r .mesh) i)
+
+abbrev pub rulesWithData : Rack → Step → Outcome
+rulesWithData r (Load c b w) = rules r (Load c b w)
+rulesWithData r (Store c b w v) = rules r (Store c b w v)
+rulesWithData r (Send c b t p o d) = settled (sendCheckBefore r c b t p o d) Done (sent r c b t p o d)
+rulesWithData r (Deliver i) = settled (when pastMesh r i refuse NoMessage else Pass) (answer r (Deliver i)) (deliveredBefore r i)
+rulesWithData r (Raise c b) = rules r (Raise c b)
+rulesWithData r (Lower c b) = rules r (Lower c b)
+rulesWithData r (Forward c b) = rules r (Forward c b)
+
+abbrev pub withDataReply : Rack → Step → Reply
+withDataReply r s = reply (rulesWithData r s)
+
+abbrev pub withDataAfter : Rack → Step → Rack
+withDataAfter r s = rackAfter r (rulesWithData r s)
+
+-- ---- sending a clean owner to home without data is now accepted; 12 is given for a dirty owner without data, or a clean one without data to a board
+
+pub record BareSends : Type 0 where
+  -- a clean owner bound for home needs no data: on a sound rack its send has the reply that it has with data, with plain tokens beside the owner or none
+  pub home : (r : Rack) (c b p : ℕ) → sound r ≡ true → cellAt r b c .owner ≡ Clean
+      → ruledReply r (Send c b 0 p true false) ≡ ruledReply r (Send c b 0 p true true)
+  -- 12 is given where document 01 gave it, unless the owner may go bare,
+  pub given : (r : Rack) (c b t p : ℕ) (o d : Bool) → withDataReply r (Send c b t p o d) ≡ Refused BareOwner → mayGoBare (cellAt r b c .owner) t ≡ false
+      → ruledReply r (Send c b t p o d) ≡ Refused BareOwner
+  -- and nowhere else
+  pub only : (r : Rack) (c b t p : ℕ) (o d : Bool) → ruledReply r (Send c b t p o d) ≡ Refused BareOwner
+      → (withDataReply r (Send c b t p o d) ≡ Refused BareOwner) × (mayGoBare (cellAt r b c .owner) t ≡ false)
+
+-- ---- home, receiving it, becomes valid with the words it already has, and the owner is clean there
+
+-- Message i of a sound rack brings home the owner of its block. Home then has the owner, clean, whatever the mark was, and is valid; with data it has the
+-- message's words, without data its own.
+pub record HomeReceived (r : Rack) (i : ℕ) : Type 0 where
+  pub owner : cellAt (ruledAfter r (Deliver i)) (messageAt r i .header .block) 0 .owner ≡ Clean
+  pub valid : cellAt (ruledAfter r (Deliver i)) (messageAt r i .header .block) 0 .valid ≡ true
+  pub words : cellAt (ruledAfter r (Deliver i)) (messageAt r i .header .block) 0 .words ≡ cond (messageAt r i .header .«data») (messageAt r i .words) (cellAt r (messageAt r i .header .block) 0 .words)
+
+abbrev pub HomeReceives : Type 0
+HomeReceives =
+    (r : Rack) (i : ℕ) → sound r ≡ true → i < length (r .mesh) → messageAt r i .header .target ≡ 0 → present (messageAt r i .header .owner) ≡ true → HomeReceived r i
+
+-- ---- what a clean mark says: home has the words
+
+-- block b of a rack has a clean owner, in a component c or in a message i
+pub data CleanIn (r : Rack) (b : ℕ) : Type 0 where
+  held : (c : ℕ) → clean (cellAt r b c .owner) ≡ true → CleanIn r b
+  carried : (i : ℕ) → messageAt r i .header .block ≡ b → clean (messageAt r i .header .owner) ≡ true → CleanIn r b
+
+-- After every list of steps from every opening: where the owner of a block is clean, wherever it is, home's words of the block are the flat memory's, handed
+-- the accepted loads and stores of the list. So "words that home already has" is true of every bare send that is accepted.
+abbrev pub CleanHome : Type 0
+CleanHome =
+    (n b t : ℕ) (r : Rack) (steps : List Step) → opening n b t ≡ accepted Done r → (k : ℕ) → k < b → CleanIn (run r steps) k
+    → cellAt (run r steps) k 0 .words ≡ getD (memoryAfter (blank b) (rackAccesses r steps)) k []
+
+-- The same of every list of byte strings, of the record that it leaves.
+abbrev pub CleanHomeBytes : Type 0
+CleanHomeBytes =
+    (n b t : ℕ) (s : List ℕ) (steps : List (List ℕ)) → Bytes s → openReply n b t s ≡ Accepted Done → (k : ℕ) → k < b
+    → CleanIn (get (after (openAfter n b t s) steps)) k
+    → cellAt (get (after (openAfter n b t s) steps)) k 0 .words ≡ getD (memoryAfter (blank b) (accesses (openAfter n b t s) steps)) k []
+
+-- and home's own owner is never dirty, though a sound record may have such a one
+abbrev pub NeverDirtyAtHome : Type 0
+NeverDirtyAtHome = (n b t : ℕ) (r : Rack) (steps : List Step) → opening n b t ≡ accepted Done r → (k : ℕ) → cellAt (run r steps) k 0 .owner ≡ Dirty → ⊥
+
+-- ---- what stays
+
+-- a step that sends or delivers a clean owner to home without data
+abbrev pub isBare : Rack → Step → Bool
+isBare r (Load c b w) = false
+isBare r (Store c b w v) = false
+isBare r (Send c b t p o d) = o && not d && mayGoBare (cellAt r b c .owner) t
+isBare r (Deliver i) = not (messageAt r i .header .«data») && mayGoBare (messageAt r i .header .owner) (messageAt r i .header .target)
+isBare r (Raise c b) = false
+isBare r (Lower c b) = false
+isBare r (Forward c b) = false
+
+-- no step of a list is one, at its turn
+abbrev pub noneBare : Rack → List Step → Bool
+noneBare r [] = true
+noneBare r (s ∷ ss) = not (isBare r s) && noneBare (ruledAfter r s) ss
+
+pub record AsBefore : Type 0 where
+  -- on every rack every other step is refused, or answered and made, as before
+  pub step : (r : Rack) (s : Step) → isBare r s ≡ false → rules r s ≡ rulesWithData r s
+  -- a send that was accepted before is accepted with the same answer and the same change
+  pub accepted-send : (r : Rack) (c b t p : ℕ) (o d : Bool) (a : Answer) (r′ : Rack) → rulesWithData r (Send c b t p o d) ≡ accepted a r′ → rules r (Send c b t p o d) ≡ accepted a r′
+  -- and a list without such steps has the same replies and leaves the same rack
+  pub list : (r : Rack) (ss : List Step) → noneBare r ss ≡ true
+      → (rackReplies r ss ≡ repliesOf withDataAfter withDataReply r ss) × (run r ss ≡ runAll withDataAfter r ss)
