@@ -10,9 +10,9 @@
  * first: every buffer, record, step and number is refused or accepted by its contents.
  *
  * The owner token of a block has a mark, clean or dirty, wherever it is. Fresh owners are clean. An accepted store makes the owner dirty, also a store
- * of the value that was there already. A delivery to home makes it clean. Otherwise the mark travels as it is. Where the owner is clean, home has the
- * words of the block, so the owner may go home without data: a send with owner 1, data 0 and target 0. The mark is no field of a step record.
- * hyl_view_dirty and hyl_view_message_dirty of hyaloneth_view.h read it.
+ * of the value that was there already. A delivery to home makes it clean. Otherwise the mark travels as it is. In a record that was opened and then
+ * changed by these calls alone, home has the words of every block whose owner is clean. So a clean owner may go home without data: a send with owner 1,
+ * data 0 and target 0. The mark is no field of a step record. hyl_view_dirty and hyl_view_message_dirty of hyaloneth_view.h read it.
  *
  * An accepted deliver gives HYL_SERVED, never HYL_DONE. So a caller that takes HYL_KIND(result) == HYL_DONE for "accepted" takes every deliver for a
  * refused one: ask HYL_KIND(result) != HYL_REFUSED, or for HYL_SERVED.
@@ -94,8 +94,8 @@ uint64_t hyl_record_len(uint32_t blocks);
  * held before does not matter, and its bytes past the record stay as they are. So do the bytes that the layout leaves as room: two records with the
  * same figures may differ there.
  *
- * A record that was opened before owners had marks is not to be used any longer: open a new one. The marks stand where it has room, in bytes that
- * nobody wrote. It may be refused with HYL_UNSOUND, or be sound with marks that are wrong.
+ * A record that was opened before owners had marks is not to be used any longer: open a new one. The marks of components stand where it has room, in
+ * bytes that nobody wrote; those of messages are 0 there. It may be refused with HYL_UNSOUND, or be sound with marks that are wrong.
  *   rec, rec_len  the buffer, and how many bytes it has
  *   boards        N, 1 to 15
  *   blocks        B, 1 to 32

@@ -1,10 +1,10 @@
--- The state letter by bytes: a sound record is well well-formed, so the cell's figures are read at their places, and the owner's mark is the number of owners.
-use Prim.Native.Nat.{ℕ, _+_, _*_, _≤_, _<_}
+-- The state letter by bytes: a sound record is well-formed, so the cell's figures are read at their places, and the owner's byte is the number of owners.
+use Prim.Native.Nat.{ℕ, _+_, _≤_, _<_}
 use native.Mathlib.Omega.{arith}
 use mathlib.Core.Path.{_≡_, refl, sym, ap, _∙_}
 use mathlib.Core.Bool.{true, false, cond, _||_}
 use mathlib.Core.List.{List}
-use borrow.Author.Tests.{ltb-true, ltb-false, leb-false, eq-eqb, ne-eqb}
+use borrow.Author.Tests.{ltb-false, leb-false, eq-eqb, ne-eqb}
 use lib.Dec.{eqb, ltb, leb}
 use lib.ListN.{getD}
 use Rattle.spec_base.specs.Folds.{toℕ}

@@ -4,12 +4,12 @@ ghost use Rattle.spec_rack.specs.Rack.{present, clean};
 ghost use Rattle.spec_rack.specs.RecordLayout.{ownerOf, dirty};
 use spec_rack::Owner;
 
-// The owner that two flags tell; where it is away, its mark tells nothing.
-pub fn owner_of(here: bool, marked: bool) -> Owner
-    ensures { λ r. ⌜ r ≡ ownerOf here marked ⌝ }
+// The owner that two flags tell; where it is away, the second tells nothing.
+pub fn owner_of(here: bool, dirty: bool) -> Owner
+    ensures { λ r. ⌜ r ≡ ownerOf here dirty ⌝ }
 {
     if here {
-        if marked {
+        if dirty {
             return Owner::Dirty;
         }
         return Owner::Clean;
@@ -22,8 +22,8 @@ pub fn is_present(owner: Owner) -> bool
 {
     match owner {
         Owner::Away => false,
-        Owner::Dirty => true,
         Owner::Clean => true,
+        Owner::Dirty => true,
     }
 }
 
@@ -32,8 +32,8 @@ pub fn is_dirty(owner: Owner) -> bool
 {
     match owner {
         Owner::Away => false,
-        Owner::Dirty => true,
         Owner::Clean => false,
+        Owner::Dirty => true,
     }
 }
 
@@ -42,7 +42,7 @@ pub fn is_clean(owner: Owner) -> bool
 {
     match owner {
         Owner::Away => false,
-        Owner::Dirty => false,
         Owner::Clean => true,
+        Owner::Dirty => false,
     }
 }

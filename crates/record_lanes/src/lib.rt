@@ -107,7 +107,7 @@ fn eight(s: &[u8], at: usize) -> u64
     low as u64 + high as u64 * 4294967296
 }
 
-// Joins the plain counts and owner's marks of eight components of a block to what was seen of them in other blocks.
+// Joins the plain counts and owners of eight components of a block to what was seen of them in other blocks.
 fn gather_holders(s: &[u8], at: usize, seen: u64) -> u64
     requires { ⌜ at + 24 ≤ length (now s) ⌝ }
     ensures { λ r. ⌜ r ≡ bitOr (bitOr seen (lowFirst (λ i. getD (now (s .entry)) (at + i) 0) 8)) (lowFirst (λ i. getD (now (s .entry)) (at + ownerOffset + i) 0) 8) ⌝ }

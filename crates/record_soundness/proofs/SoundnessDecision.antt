@@ -8,7 +8,7 @@ use mathlib.Core.List.{List}
 use lib.ListN.{length, getD, set}
 use lib.Dec.{eqb, leb, ltb}
 use borrow.Author.Tests.{eq-eqb, ne-eqb, eqb-true, le-leb, leb-true, lt-leb, ltb-true}
-use Rattle.spec_base.specs.Folds.{toℕ, allBelow, sumBelow, sum, all}
+use Rattle.spec_base.specs.Folds.{allBelow, sumBelow, sum, all}
 use Rattle.spec_base.specs.Number.{Bytes}
 use Rattle.spec_base.specs.Layout.{slice}
 use Rattle.spec_base.proofs.Tests.{and-l, and-r, and-of, and-left, and-right, and-known, same-test, one-lt, eqb-one, cond-of}
@@ -93,7 +93,7 @@ halves v w a x b y t p q l h =
 
 -- ---- a record of the layout's form
 
--- a plain count and an owner's mark by their weight
+-- a plain count and an owner's byte by their weight
 marked-weight : (p o d : ℕ) → o < 2
     → p + o * 65536 ≡ (p + owners (ownerOf (eqb o 1) (eqb d 1))) + 65535 * owners (ownerOf (eqb o 1) (eqb d 1))
 marked-weight p o d h = rw present-is (omega (arith, eqb-one o h))

@@ -5,8 +5,10 @@ use mathlib.Core.Bool.{Bool, true, false, not, _&&_, _||_}
 use mathlib.Core.List.{List, [], _∷_}
 use borrow.Author.Tests.{eq-eqb, lt-leb, not-true}
 use lib.ListN.{length, length-replicate}
-use Rattle.spec_base.specs.Folds.{removeAt}
+use lib.Dec.{eqb, leb, ltb}
+use Rattle.spec_base.specs.Folds.{all, implies, removeAt}
 use Rattle.spec_base.proofs.Tests.{differs, and-l, and-r, and-left, and-right, or-l, or-right, not-of-true}
+use Rattle.spec_wire.specs.declared.Refusal.{Refusal}
 use Rattle.spec_wire.specs.declared.Refusal.the-variants.{OffRack, NoData, SelfSend, Claimed, Empty, NotHeld, BareOwner, MeshFull}
 use Rattle.spec_wire.specs.declared.Check.{Check}
 use Rattle.spec_wire.specs.declared.Check.the-variants.{Pass}
@@ -15,17 +17,18 @@ use Rattle.spec_wire.specs.declared.Step.{Step}
 use Rattle.spec_wire.specs.declared.Step.the-variants.{Load, Store, Send, Deliver, Raise, Lower, Forward}
 use Rattle.spec_rack.specs.declared.Owner.{Owner}
 use Rattle.spec_rack.specs.declared.Owner.the-variants.{Clean, Dirty}
+use Rattle.spec_rack.specs.declared.Message.{Message}
 use Rattle.spec_rack.specs.declared.Answer.{Answer}
 use Rattle.spec_rack.specs.declared.Answer.the-variants.{Done}
 use Rattle.spec_rack.specs.declared.Reply.the-variants.{Refused}
-use Rattle.spec_rack.specs.Rack.{Cell, Rack, noCell, noMessage, fresh, blockAt, cellAt, messageAt, present, mayGoBare}
-use Rattle.spec_rack.specs.Soundness.{sound, sizes}
+use Rattle.spec_rack.specs.Rack.{Cell, Rack, noCell, noMessage, fresh, blockAt, cellAt, messageAt, carried as messageTokens, present, mayGoBare}
+use Rattle.spec_rack.specs.Soundness.{eightWords, sound, sizes}
 use Rattle.spec_rack.specs.Rules.{Outcome, accepted, settled, check, after, answer, rules, sent, withTokens, delivered, offRack, reply, rackAfter}
 use Rattle.spec_rack.specs.FlatMemory.{Memory, blank, memoryAfter}
 use Rattle.spec_rack.specs.RecordLayout.{get}
 use Rattle.spec_rack.specs.Opening.{openCheck, openReply, openAfter}
 use Rattle.spec_rack.specs.Lists.{ruledReply, ruledAfter, run, rackReplies, rackAccesses, runAll, repliesOf, stepsOf, after as bufferAfter, accesses}
-use Rattle.spec_rack.specs.CleanOwner.{withDataReply, withDataAfter, rulesWithData, BareSends, HomeReceives, CleanIn, held, carried, CleanHome, CleanHomeBytes, NeverDirtyAtHome, isBare, noneBare, AsBefore}
+use Rattle.spec_rack.specs.CleanOwner.{replyBeforeBare, afterBeforeBare, rulesBeforeBare, BareSends, HomeReceives, CleanIn, in-component, in-flight, CleanHome, CleanHomeBytes, NeverDirtyAtHome, isBare, noneBare, AsBefore}
 use Rattle.spec_rack.proofs.SoundnessFacts.{Sound, sound-facts}
 use Rattle.spec_rack.proofs.OwnerMarks.{joined-home}
 use Rattle.spec_rack.proofs.OwnerLaws.{NotDirty}
@@ -38,15 +41,15 @@ use Rattle.spec_rack.proofs.OpeningLaws.{passes, sized, open-get, open-
 use Rattle.spec_rack.proofs.ByteLists.{runs}
 use Rattle.spec_rack.proofs.HomeLoads.{any-rack}
 
--- a send's lines by their tests, where `bare` is that of 12
-abbrev lines : Bool → Bool → Bool → Bool → Bool → Bool → Bool → Bool → Check
-lines off self claimed none short bare stale full =
+-- a send's lines by their tests, where `bare` is that of 12 and `refusal` what it gives
+abbrev lines : Refusal → Bool → Bool → Bool → Bool → Bool → Bool → Bool → Bool → Check
+lines refusal off self claimed none short bare stale full =
     when off refuse OffRack else
     when self refuse SelfSend else
     when claimed refuse Claimed else
     when none refuse Empty else
     when short refuse NotHeld else
-    when bare refuse BareOwner else
+    when bare refuse refusal else
     when stale refuse NoData else
     when full refuse MeshFull else
     Pass
@@ -54,11 +57,11 @@ lines off self claimed none short bare stale full =
 -- ---- a send of a clean owner to home
 
 -- with a test of 12 that fails, and of 6 that fails on the rack
-same-reply : (r r′ : Rack) (off self claimed none short bare stale full : Bool) → bare ≡ false → (off ≡ false → stale ≡ false)
-    → reply (settled (lines off self claimed none short bare false full) Done r) ≡ reply (settled (lines off self claimed none short false stale full) Done r′)
+same-reply : (refusal : Refusal) (r r′ : Rack) (off self claimed none short bare stale full : Bool) → bare ≡ false → (off ≡ false → stale ≡ false)
+    → reply (settled (lines refusal off self claimed none short bare false full) Done r) ≡ reply (settled (lines refusal off self claimed none short false stale full) Done r′)
 unfolding when_refuse_else_
-same-reply r r′ true self claimed none short bare stale full e f = refl
-same-reply r r′ false self claimed none short bare stale full e f = rw (e, f refl) (any-rack (lines false self claimed none short false false full) Done r r′)
+same-reply refusal r r′ true self claimed none short bare stale full e f = refl
+same-reply refusal r r′ false self claimed none short bare stale full e f = rw (e, f refl) (any-rack (lines refusal false self claimed none short false false full) Done r r′)
 
 clean-bare : (w : Owner) → w ≡ Clean → not (mayGoBare w 0) ≡ false
 clean-bare w e = ap (λ (y : Owner). not (mayGoBare y 0)) e
@@ -67,7 +70,7 @@ home-send : (r : Rack) (c b p : ℕ) → sound r ≡ true → cellAt r b c .owne
 unfolding rules check after answer
 home-send r c b p ok e =
     let s = sound-facts r ok in
-    same-reply _ _ _ _ _ _ _ _ _ _ (search clean-bare)
+    same-reply _ _ _ _ _ _ _ _ _ _ _ (search clean-bare)
     (λ known.
     let on = or-l (offRack r c b) _ known in
     not-of-true (cellAt r b c .valid) (cell-sound r s b c (inB r s c b on) (inN r s c b on) .current (ap present e)))
@@ -84,7 +87,7 @@ valid-before : (d u : Bool) → (not d && u) ≡ false → (d || u) ≡ d
 valid-before true u e = refl
 valid-before false u e = e
 
-step-same : (r : Rack) (s : Step) → isBare r s ≡ false → rules r s ≡ rulesWithData r s
+step-same : (r : Rack) (s : Step) → isBare r s ≡ false → rules r s ≡ rulesBeforeBare r s
 unfolding rules check after answer delivered
 step-same r (Load c b w) e = refl
 step-same r (Store c b w v) e = refl
@@ -97,7 +100,7 @@ step-same r (Forward c b) e = refl
 module _ (r : Rack) where
   -- only its line refuses with 12
   by-12 : (off self claimed none short bare stale full : Bool)
-      → reply (settled (lines off self claimed none short bare stale full) Done r) ≡ Refused BareOwner → bare ≡ true
+      → reply (settled (lines BareOwner off self claimed none short bare stale full) Done r) ≡ Refused BareOwner → bare ≡ true
   unfolding when_refuse_else_
   by-12 true self claimed none short bare stale full e = cc
   by-12 false true claimed none short bare stale full e = cc
@@ -111,7 +114,7 @@ module _ (r : Rack) where
 
   -- a send that is accepted is past it
   past-12 : (a : Answer) (r′ : Rack) (off self claimed none short bare stale full : Bool)
-      → settled (lines off self claimed none short bare stale full) Done r ≡ accepted a r′ → bare ≡ false
+      → settled (lines BareOwner off self claimed none short bare stale full) Done r ≡ accepted a r′ → bare ≡ false
   unfolding when_refuse_else_
   past-12 a r′ true self claimed none short bare stale full e = cc
   past-12 a r′ false true claimed none short bare stale full e = cc
@@ -122,19 +125,31 @@ module _ (r : Rack) where
   past-12 a r′ false false false false false false stale full e = refl
 
 same-list : (ss : List Step) (r : Rack) → noneBare r ss ≡ true
-    → (rackReplies r ss ≡ repliesOf withDataAfter withDataReply r ss) × (run r ss ≡ runAll withDataAfter r ss)
+    → (rackReplies r ss ≡ repliesOf afterBeforeBare replyBeforeBare r ss) × (run r ss ≡ runAll afterBeforeBare r ss)
 unfolding runAll repliesOf
 same-list [] r h = (refl, refl)
 same-list (s ∷ ss) r h =
     let same = step-same r s (not-true _ (and-l (not (isBare r s)) _ h)) in
     let rest = same-list ss (ruledAfter r s) (and-r (not (isBare r s)) _ h) in (
-      ap₂ _∷_ (ap reply same) (rest .0 ∙ ap (λ (o : Outcome). repliesOf withDataAfter withDataReply (rackAfter r o) ss) same),
-      rest .1 ∙ ap (λ (o : Outcome). runAll withDataAfter (rackAfter r o) ss) same,
+      ap₂ _∷_ (ap reply same) (rest .0 ∙ ap (λ (o : Outcome). repliesOf afterBeforeBare replyBeforeBare (rackAfter r o) ss) same),
+      rest .1 ∙ ap (λ (o : Outcome). runAll afterBeforeBare (rackAfter r o) ss) same,
     )
+
+-- what is asked of every message, with the owner or without
+abbrev asked : ℕ → ℕ → Message → Bool
+asked n b m =
+    let h = m .header in
+    eightWords (m .words)
+    && implies (not (h .«data»)) (all (eqb 0) (m .words))
+    && leb (h .sender) n
+    && leb (h .target) n && not (eqb (h .sender) (h .target))
+    && ltb (h .block) b
+    && ltb 0 (messageTokens m)
 
 pub as-before : AsBefore
 as-before =
     record {
+      message = λ n b m h. ap (λ (z : Bool). asked n b m && implies (present (m .header .owner)) z) (valid-before (m .header .«data») _ h);
       step = step-same;
       accepted-send = λ r c b t p o d a r′ e.
           step-same r (Send c b t p o d) (and-left (o && not d) _ (past-12 (sent r c b t p o d) a r′ _ _ _ _ _ (o && not d) _ _ e)) ∙ e;
@@ -184,9 +199,9 @@ home-receives r i ok l z o =
 -- ---- what a clean mark says
 
 home-words : (r : Rack) (mem : Memory) → Coherent r mem → (k : ℕ) → k < length (r .blocks) → CleanIn r k → HomeHas mem r k
-home-words r mem coh k l (held c u) =
+home-words r mem coh k l (in-component c u) =
     all-anywhere (CleanCell (HomeHas mem r) k) (blockAt r k .cells) (coh .home .cells k l) noCell (λ none. differs (sym none)) c u
-home-words r mem coh k l (carried i e u) =
+home-words r mem coh k l (in-flight i e u) =
     subst (HomeHas mem r) e (all-anywhere (CleanMessage (HomeHas mem r)) (r .mesh) (coh .home .mesh) noMessage (λ none. differs (sym none)) i u)
 
 -- after a list from a fresh rack

@@ -9,7 +9,7 @@ use Rattle.spec_base.proofs.Tests.{differs, and-l, and-r}
 use Rattle.spec_rack.specs.declared.Owner.{Owner}
 use Rattle.spec_rack.specs.declared.Owner.the-variants.{Away, Dirty, Clean}
 use Rattle.spec_rack.specs.Rack.{isHome, present, clean, owners, mayGoBare}
-use Rattle.spec_rack.specs.Rules.{keptOwner, takenOwner, joined}
+use Rattle.spec_rack.specs.Rules.{keptOwner, takenOwner, joinedOwner}
 use Rattle.spec_rack.proofs.OwnerMarks.{joined-home}
 
 pub clean-present : (w : Owner) → clean w ≡ true → present w ≡ true
@@ -85,7 +85,7 @@ supplied-taken false d w c f h = differs (sym h)
 
 -- ---- a delivery to component c: the owner n of the message, or else the target's w
 
-pub not-dirty-joined : (w n : Owner) (c : ℕ) → isHome c ≡ true → NotDirty w → NotDirty (joined w n c)
+pub not-dirty-joined : (w n : Owner) (c : ℕ) → isHome c ≡ true → NotDirty w → NotDirty (joinedOwner w n c)
 not-dirty-joined w Away c z h = h
 not-dirty-joined w Dirty c z h = subst NotDirty (sym (joined-home w Dirty c z refl)) tt
 not-dirty-joined w Clean c z h = subst NotDirty (sym (joined-home w Clean c z refl)) tt
@@ -95,12 +95,12 @@ one-owner : (t : Bool) → owners (cond t Clean Dirty) ≡ 1
 one-owner true = refl
 one-owner false = refl
 
-pub owners-joined : (w n : Owner) (c : ℕ) → owners w + owners n ≤ 1 → owners (joined w n c) ≡ owners w + owners n
+pub owners-joined : (w n : Owner) (c : ℕ) → owners w + owners n ≤ 1 → owners (joinedOwner w n c) ≡ owners w + owners n
 owners-joined w Away c h = omega arith
 owners-joined w Dirty c h = omega (arith, one-owner (isHome c))
 owners-joined w Clean c h = omega arith
 
-pub present-joined : (w n : Owner) (c : ℕ) → present (joined w n c) ≡ true → (present w || present n) ≡ true
+pub present-joined : (w n : Owner) (c : ℕ) → present (joinedOwner w n c) ≡ true → (present w || present n) ≡ true
 present-joined Dirty n c h = refl
 present-joined Clean n c h = refl
 present-joined Away Away c h = h
@@ -113,7 +113,7 @@ clean-if-home false h = h
 
 -- a clean owner after it was clean before, in the target or the message, or came home
 pub clean-joined : {H : Type 0} (w n : Owner) (c : ℕ) → (clean w ≡ true → H) → (clean n ≡ true → H) → (isHome c ≡ true → present n ≡ true → H)
-    → clean (joined w n c) ≡ true → H
+    → clean (joinedOwner w n c) ≡ true → H
 clean-joined w Away c f g k h = f h
 clean-joined w Dirty c f g k h = k (search clean-if-home) refl
 clean-joined w Clean c f g k h = g refl

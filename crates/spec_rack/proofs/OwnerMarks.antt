@@ -6,7 +6,7 @@ use Rattle.spec_rack.specs.declared.Owner.{Owner}
 use Rattle.spec_rack.specs.declared.Owner.the-variants.{Away, Dirty, Clean}
 use Prim.Native.Nat.{ℕ}
 use Rattle.spec_rack.specs.Rack.{isHome, present}
-use Rattle.spec_rack.specs.Rules.{dirtied, joined}
+use Rattle.spec_rack.specs.Rules.{dirtied, joinedOwner}
 use Rattle.spec_rack.specs.CleanOwner.{Marks}
 
 is-dirtied : (w : Owner) → present w ≡ true → dirtied w ≡ Dirty
@@ -22,12 +22,12 @@ dirty-board t e = ap (λ (u : Bool). cond u Clean Dirty) e
 dirty-home : (t : Bool) → t ≡ true → cond t Clean Dirty ≡ Clean
 dirty-home t e = ap (λ (u : Bool). cond u Clean Dirty) e
 
-joined-board : (w n : Owner) (c : ℕ) → isHome c ≡ false → present n ≡ true → joined w n c ≡ n
+joined-board : (w n : Owner) (c : ℕ) → isHome c ≡ false → present n ≡ true → joinedOwner w n c ≡ n
 joined-board w Away c z h = differs (sym h)
 joined-board w Dirty c z h = search dirty-board
 joined-board w Clean c z h = refl
 
-pub joined-home : (w n : Owner) (c : ℕ) → isHome c ≡ true → present n ≡ true → joined w n c ≡ Clean
+pub joined-home : (w n : Owner) (c : ℕ) → isHome c ≡ true → present n ≡ true → joinedOwner w n c ≡ Clean
 joined-home w Away c z h = differs (sym h)
 joined-home w Dirty c z h = search dirty-home
 joined-home w Clean c z h = refl

@@ -6,8 +6,8 @@ use mathlib.Core.Path.{_≡_}
 use mathlib.Core.Bool.{Bool, true, false, not, cond, _&&_, _||_}
 use mathlib.Core.List.{List, [], _∷_}
 use lib.ListN.{length, getD}
-use lib.Dec.{eqb, ltb}
-use Rattle.spec_base.specs.Folds.{toℕ, removeAt}
+use lib.Dec.{eqb, leb, ltb}
+use Rattle.spec_base.specs.Folds.{toℕ, all, implies, removeAt}
 use Rattle.spec_base.specs.Number.{Bytes}
 use Rattle.spec_wire.specs.declared.Refusal.the-variants.{OffRack, NoData, SelfSend, Claimed, Empty, NotHeld, BareOwner, MeshFull, NoMessage}
 use Rattle.spec_wire.specs.declared.Check.{Check}
@@ -22,9 +22,9 @@ use Rattle.spec_rack.specs.declared.Answer.the-variants.{Done}
 use Rattle.spec_rack.specs.declared.Answer.{Answer}
 use Rattle.spec_rack.specs.declared.Reply.{Reply}
 use Rattle.spec_rack.specs.declared.Reply.the-variants.{Accepted, Refused}
-use Rattle.spec_rack.specs.Rack.{Cell, Rack, isHome, present, clean, mayGoBare, claimsAt, cellAt, messageAt, fullCell}
-use Rattle.spec_rack.specs.Soundness.{sound}
-use Rattle.spec_rack.specs.Rules.{Outcome, accepted, settled, opening, rules, withWord, withoutTokens, message, sent, joined, withTokens, withCell, answer, offRack, meshFull, pastMesh, reply, rackAfter}
+use Rattle.spec_rack.specs.Rack.{Cell, Rack, isHome, present, clean, mayGoBare, claimsAt, cellAt, messageAt, carried, fullCell}
+use Rattle.spec_rack.specs.Soundness.{eightWords, soundMessage, sound}
+use Rattle.spec_rack.specs.Rules.{Outcome, accepted, settled, opening, rules, withWord, withoutTokens, message, sent, joinedOwner, withTokens, withCell, answer, offRack, meshFull, pastMesh, reply, rackAfter}
 use Rattle.spec_rack.specs.FlatMemory.{blank, memoryAfter}
 use Rattle.spec_rack.specs.RecordLayout.{get}
 use Rattle.spec_rack.specs.Opening.{openReply, openAfter}
@@ -48,7 +48,7 @@ pub record Marks : Type 0 where
   pub plain-delivered : (x : Cell) (m : Message) → m .header .owner ≡ Away → withTokens x m .owner ≡ x .owner
 
 -- ---- before: document 01's send, with 12 for every owner without data, and its deliver, which makes valid by data alone. Every other step is by the rules
--- of today; the marks are kept as today, and decide nothing.
+-- of today; marks change as they do today, and these rules never ask for them.
 
 abbrev pub sendCheckBefore : Rack → ℕ → ℕ → ℕ → ℕ → Bool → Bool → Check
 sendCheckBefore r c b t p o d =
@@ -66,7 +66,7 @@ abbrev pub withTokensBefore : Cell → Message → Cell
 withTokensBefore x m =
     record {
       plain = x .plain + m .header .plain;
-      owner = joined (x .owner) (m .header .owner) (m .header .target);
+      owner = joinedOwner (x .owner) (m .header .owner) (m .header .target);
       valid = x .valid || m .header .«data»;
       words = cond (m .header .«data») (m .words) (x .words);
     }
@@ -78,35 +78,35 @@ deliveredBefore r i =
     let c = m .header .target in
     withCell r b c (withTokensBefore (cellAt r b c) m) (removeAt (r .mesh) i)
 
-abbrev pub rulesWithData : Rack → Step → Outcome
-rulesWithData r (Load c b w) = rules r (Load c b w)
-rulesWithData r (Store c b w v) = rules r (Store c b w v)
-rulesWithData r (Send c b t p o d) = settled (sendCheckBefore r c b t p o d) Done (sent r c b t p o d)
-rulesWithData r (Deliver i) = settled (when pastMesh r i refuse NoMessage else Pass) (answer r (Deliver i)) (deliveredBefore r i)
-rulesWithData r (Raise c b) = rules r (Raise c b)
-rulesWithData r (Lower c b) = rules r (Lower c b)
-rulesWithData r (Forward c b) = rules r (Forward c b)
+abbrev pub rulesBeforeBare : Rack → Step → Outcome
+rulesBeforeBare r (Load c b w) = rules r (Load c b w)
+rulesBeforeBare r (Store c b w v) = rules r (Store c b w v)
+rulesBeforeBare r (Send c b t p o d) = settled (sendCheckBefore r c b t p o d) Done (sent r c b t p o d)
+rulesBeforeBare r (Deliver i) = settled (when pastMesh r i refuse NoMessage else Pass) (answer r (Deliver i)) (deliveredBefore r i)
+rulesBeforeBare r (Raise c b) = rules r (Raise c b)
+rulesBeforeBare r (Lower c b) = rules r (Lower c b)
+rulesBeforeBare r (Forward c b) = rules r (Forward c b)
 
-abbrev pub withDataReply : Rack → Step → Reply
-withDataReply r s = reply (rulesWithData r s)
+abbrev pub replyBeforeBare : Rack → Step → Reply
+replyBeforeBare r s = reply (rulesBeforeBare r s)
 
-abbrev pub withDataAfter : Rack → Step → Rack
-withDataAfter r s = rackAfter r (rulesWithData r s)
+abbrev pub afterBeforeBare : Rack → Step → Rack
+afterBeforeBare r s = rackAfter r (rulesBeforeBare r s)
 
--- ---- sending a clean owner to home without data is now accepted; 12 is given for a dirty owner without data, or a clean one without data to a board
+-- ---- which sends without data are accepted, and where 12 is left
 
 pub record BareSends : Type 0 where
   -- a clean owner bound for home needs no data: on a sound rack its send has the reply that it has with data, with plain tokens beside the owner or none
   pub home : (r : Rack) (c b p : ℕ) → sound r ≡ true → cellAt r b c .owner ≡ Clean
       → ruledReply r (Send c b 0 p true false) ≡ ruledReply r (Send c b 0 p true true)
   -- 12 is given where document 01 gave it, unless the owner may go bare,
-  pub given : (r : Rack) (c b t p : ℕ) (o d : Bool) → withDataReply r (Send c b t p o d) ≡ Refused BareOwner → mayGoBare (cellAt r b c .owner) t ≡ false
+  pub given : (r : Rack) (c b t p : ℕ) (o d : Bool) → replyBeforeBare r (Send c b t p o d) ≡ Refused BareOwner → mayGoBare (cellAt r b c .owner) t ≡ false
       → ruledReply r (Send c b t p o d) ≡ Refused BareOwner
   -- and nowhere else
   pub only : (r : Rack) (c b t p : ℕ) (o d : Bool) → ruledReply r (Send c b t p o d) ≡ Refused BareOwner
-      → (withDataReply r (Send c b t p o d) ≡ Refused BareOwner) × (mayGoBare (cellAt r b c .owner) t ≡ false)
+      → (replyBeforeBare r (Send c b t p o d) ≡ Refused BareOwner) × (mayGoBare (cellAt r b c .owner) t ≡ false)
 
--- ---- home, receiving it, becomes valid with the words it already has, and the owner is clean there
+-- ---- what home has once the owner is delivered there
 
 -- Message i of a sound rack brings home the owner of its block. Home then has the owner, clean, whatever the mark was, and is valid; with data it has the
 -- message's words, without data its own.
@@ -123,11 +123,11 @@ HomeReceives =
 
 -- block b of a rack has a clean owner, in a component c or in a message i
 pub data CleanIn (r : Rack) (b : ℕ) : Type 0 where
-  held : (c : ℕ) → clean (cellAt r b c .owner) ≡ true → CleanIn r b
-  carried : (i : ℕ) → messageAt r i .header .block ≡ b → clean (messageAt r i .header .owner) ≡ true → CleanIn r b
+  in-component : (c : ℕ) → clean (cellAt r b c .owner) ≡ true → CleanIn r b
+  in-flight : (i : ℕ) → messageAt r i .header .block ≡ b → clean (messageAt r i .header .owner) ≡ true → CleanIn r b
 
 -- After every list of steps from every opening: where the owner of a block is clean, wherever it is, home's words of the block are the flat memory's, handed
--- the accepted loads and stores of the list. So "words that home already has" is true of every bare send that is accepted.
+-- the accepted loads and stores of the list. So home has the words of every bare send that such a list has accepted.
 abbrev pub CleanHome : Type 0
 CleanHome =
     (n b t : ℕ) (r : Rack) (steps : List Step) → opening n b t ≡ accepted Done r → (k : ℕ) → k < b → CleanIn (run r steps) k
@@ -146,7 +146,7 @@ NeverDirtyAtHome = (n b t : ℕ) (r : Rack) (steps : List Step) → opening n b 
 
 -- ---- what stays
 
--- a step that sends or delivers a clean owner to home without data
+-- a step that would send, or deliver, a clean owner to home without data, accepted or not
 abbrev pub isBare : Rack → Step → Bool
 isBare r (Load c b w) = false
 isBare r (Store c b w v) = false
@@ -156,16 +156,31 @@ isBare r (Raise c b) = false
 isBare r (Lower c b) = false
 isBare r (Forward c b) = false
 
+-- what document 01 asks of a message: data wherever it has the owner
+abbrev pub soundMessageBefore : ℕ → ℕ → Message → Bool
+soundMessageBefore n b m =
+    let h = m .header in
+    eightWords (m .words)
+    && implies (not (h .«data»)) (all (eqb 0) (m .words))
+    && leb (h .sender) n
+    && leb (h .target) n && not (eqb (h .sender) (h .target))
+    && ltb (h .block) b
+    && ltb 0 (carried m)
+    && implies (present (h .owner)) (h .«data»)
+
 -- no step of a list is one, at its turn
 abbrev pub noneBare : Rack → List Step → Bool
 noneBare r [] = true
 noneBare r (s ∷ ss) = not (isBare r s) && noneBare (ruledAfter r s) ss
 
 pub record AsBefore : Type 0 where
+  -- every other message is sound, or not, as before; nothing else of what a sound rack is has moved
+  pub message : (n b : ℕ) (m : Message) → (not (m .header .«data») && mayGoBare (m .header .owner) (m .header .target)) ≡ false
+      → soundMessage n b m ≡ soundMessageBefore n b m
   -- on every rack every other step is refused, or answered and made, as before
-  pub step : (r : Rack) (s : Step) → isBare r s ≡ false → rules r s ≡ rulesWithData r s
+  pub step : (r : Rack) (s : Step) → isBare r s ≡ false → rules r s ≡ rulesBeforeBare r s
   -- a send that was accepted before is accepted with the same answer and the same change
-  pub accepted-send : (r : Rack) (c b t p : ℕ) (o d : Bool) (a : Answer) (r′ : Rack) → rulesWithData r (Send c b t p o d) ≡ accepted a r′ → rules r (Send c b t p o d) ≡ accepted a r′
+  pub accepted-send : (r : Rack) (c b t p : ℕ) (o d : Bool) (a : Answer) (r′ : Rack) → rulesBeforeBare r (Send c b t p o d) ≡ accepted a r′ → rules r (Send c b t p o d) ≡ accepted a r′
   -- and a list without such steps has the same replies and leaves the same rack
   pub list : (r : Rack) (ss : List Step) → noneBare r ss ≡ true
-      → (rackReplies r ss ≡ repliesOf withDataAfter withDataReply r ss) × (run r ss ≡ runAll withDataAfter r ss)
+      → (rackReplies r ss ≡ repliesOf afterBeforeBare replyBeforeBare r ss) × (run r ss ≡ runAll afterBeforeBare r ss)

@@ -21,7 +21,7 @@ use Rattle.spec_rack.specs.declared.Answer.the-variants.{Word}
 use Rattle.spec_rack.specs.declared.Reply.{Reply}
 use Rattle.spec_rack.specs.declared.Reply.the-variants.{Accepted, Refused}
 use Rattle.spec_rack.specs.declared.Lettered.the-variants as Lettered
-use Rattle.spec_rack.specs.Rack.{Rack, cellAt, held}
+use Rattle.spec_rack.specs.Rack.{Rack, isHome, cellAt, held}
 use Rattle.spec_rack.specs.Soundness.{sound}
 use Rattle.spec_rack.specs.Rules.{Outcome, settled, rules, offRack, pastWords, reply, rackAfter}
 use Rattle.spec_rack.specs.Letter.{letter}
@@ -33,7 +33,7 @@ use Rattle.spec_rack.specs.Lists.{runAll, ruledReply, ruledAfter}
 abbrev pub loadCheckBefore : Rack → ℕ → ℕ → ℕ → Check
 loadCheckBefore r c b w =
     when offRack r c b || pastWords w refuse OffRack else
-    when eqb c 0 refuse Home else
+    when isHome c refuse Home else
     when eqb (held (cellAt r b c)) 0 refuse NoToken else
     when not (cellAt r b c .valid) refuse NoData else
     Pass
@@ -79,7 +79,7 @@ ValidLoads =
 -- ---- every load that was answered before gives the same, every other load at a board has the same reply, and every list leaves the same
 
 abbrev pub isHomeLoad : Step → Bool
-isHomeLoad (Load c b w) = eqb c 0
+isHomeLoad (Load c b w) = isHome c
 isHomeLoad (Store c b w v) = false
 isHomeLoad (Send c b t p o d) = false
 isHomeLoad (Deliver i) = false

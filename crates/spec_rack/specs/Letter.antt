@@ -9,7 +9,7 @@ use Rattle.spec_wire.specs.Refusals.{when_refuse_else_}
 use Rattle.spec_rack.specs.declared.Letter.{Letter}
 use Rattle.spec_rack.specs.declared.Letter.the-variants.{M, O, S, I}
 use Rattle.spec_rack.specs.declared.Lettered.{Lettered}
-use Rattle.spec_rack.specs.Rack.{Cell, Rack, present, cellAt, held}
+use Rattle.spec_rack.specs.Rack.{Cell, Rack, isHome, present, cellAt, held}
 use Rattle.spec_rack.specs.Rules.{offRack}
 use mathlib.Core.List.{List}
 use Rattle.spec_rack.specs.RecordLayout.{get}
@@ -19,7 +19,7 @@ use Rattle.spec_rack.specs.declared.Lettered.the-variants as Lettered
 unfoldable pub letterCheck : Rack → ℕ → ℕ → Check
 letterCheck r c b =
     when offRack r c b refuse OffRack else
-    when eqb c 0 refuse Home else
+    when isHome c refuse Home else
     Pass
 
 -- M with T held; O with the owner and fewer; S with valid plain tokens only (valid says that some are held); otherwise I

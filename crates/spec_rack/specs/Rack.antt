@@ -19,19 +19,19 @@ meshLimit = 64
 abbrev pub isHome : ℕ → Bool
 isHome c = eqb c 0
 
--- ---- the owner token as a component or a message has it: Away, or there with its mark (document 02, No. 2), Dirty or Clean
+-- ---- the owner token as a component or a message has it: Away, or there with its mark (document 02, No. 2), Clean or Dirty
 
 -- whether it is there
 abbrev pub present : Owner → Bool
 present Away = false
-present Dirty = true
 present Clean = true
+present Dirty = true
 
 -- whether it is there and clean
 abbrev pub clean : Owner → Bool
 clean Away = false
-clean Dirty = false
 clean Clean = true
+clean Dirty = false
 
 -- how many owner tokens that is
 abbrev pub owners : Owner → ℕ
@@ -41,7 +41,7 @@ owners o = toℕ (present o)
 abbrev pub mayGoBare : Owner → ℕ → Bool
 mayGoBare o c = clean o && isHome c
 
--- whether a message brings its target current words, or a target that has them: data, or an owner that may go bare
+-- whether the delivery of a message makes its target valid: it has data, or it brings home a clean owner, and home has the words
 abbrev pub supplied : MessageHeader → Bool
 supplied h = h .«data» || mayGoBare (h .owner) (h .target)
 

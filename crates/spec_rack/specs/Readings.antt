@@ -1,5 +1,5 @@
--- Document 01, "The rack", "Steps", "Refusal table", "State letter" and "Program rackrun": sentences that the W lines leave out, each an equation on a
--- small rack that is computed. They hold the definitions to the paper where a theorem about both definition and code could not tell a wrong reading.
+-- Document 01, "The rack", "Steps", "Refusal table", "State letter" and "Program rackrun", with document 02, Nos. 1, 2 and 7: sentences that the W lines
+-- leave out, each an equation on a small rack that is computed. They hold the definitions to the paper where a theorem about both definition and code could not tell a wrong reading.
 use Prim.Native.Nat.{ℕ}
 use mathlib.Core.Path.{_≡_}
 use mathlib.Core.Bool.{Bool, true, false, _||_}
@@ -337,7 +337,7 @@ pub record Soundness : Type 0 where
   pub no-token-with-data : sound (small all (noClaims 2) (mail 0 1 0 0 Away true 0 ∷ [])) ≡ false
   -- data if it has the owner, unless that is clean and bound for home (document 02, No. 2)
   pub owner-with-data : sound (small (cell 2 Away true 0 ∷ noCell ∷ noCell ∷ []) (noClaims 2) (mail 0 1 0 0 Clean true 0 ∷ [])) ≡ true
-  pub owner-without-data : sound (small (cell 2 Away true 0 ∷ noCell ∷ noCell ∷ []) (noClaims 2) (mail 0 1 0 0 Clean false 0 ∷ [])) ≡ false
+  pub bare-clean-board : sound (small (cell 2 Away true 0 ∷ noCell ∷ noCell ∷ []) (noClaims 2) (mail 0 1 0 0 Clean false 0 ∷ [])) ≡ false
   pub bare-clean-home : sound (small (noCell ∷ cell 2 Away true 0 ∷ noCell ∷ []) (noClaims 2) (mail 1 0 0 0 Clean false 0 ∷ [])) ≡ true
   pub bare-dirty-home : sound (small (noCell ∷ cell 2 Away true 0 ∷ noCell ∷ []) (noClaims 2) (mail 1 0 0 0 Dirty false 0 ∷ [])) ≡ false
   pub dirty-with-data : sound (small (noCell ∷ cell 2 Away true 0 ∷ noCell ∷ []) (noClaims 2) (mail 1 0 0 0 Dirty true 6 ∷ [])) ≡ true
@@ -383,10 +383,10 @@ joined (b ∷ bs) = b ++ joined bs
 abbrev pub homeLoadBytes : List ℕ
 homeLoadBytes = 0x10 ∷ 0x00 ∷ 0x0C ∷ 0x01 ∷ 0x00 ∷ 0x01 ∷ 0x00 ∷ 0x02 ∷ 0x00 ∷ 0x01 ∷ 0x00 ∷ 0x03 ∷ 0x00 ∷ 0x01 ∷ 0x00 ∷ []
 
--- the step record of a send of board 1's two plain tokens and the owner of block 0 to home, without data
+-- the step record of a send of board 2's two plain tokens and the owner of block 0 to home, without data
 abbrev pub bareSendBytes : List ℕ
 bareSendBytes =
-    0x12 ∷ 0x00 ∷ 0x18 ∷ 0x01 ∷ 0x00 ∷ 0x01 ∷ 0x01 ∷ 0x02 ∷ 0x00 ∷ 0x01 ∷ 0x00 ∷ 0x05 ∷ 0x00 ∷ 0x01 ∷ 0x00 ∷ 0x06 ∷ 0x00 ∷ 0x01 ∷ 0x02 ∷ 0x07 ∷ 0x00 ∷ 0x01 ∷ 0x01
+    0x12 ∷ 0x00 ∷ 0x18 ∷ 0x01 ∷ 0x00 ∷ 0x01 ∷ 0x02 ∷ 0x02 ∷ 0x00 ∷ 0x01 ∷ 0x00 ∷ 0x05 ∷ 0x00 ∷ 0x01 ∷ 0x00 ∷ 0x06 ∷ 0x00 ∷ 0x01 ∷ 0x02 ∷ 0x07 ∷ 0x00 ∷ 0x01 ∷ 0x01
     ∷ 0x08 ∷ 0x00 ∷ 0x01 ∷ 0x00 ∷ []
 
 pub record Printed : Type 0 where
@@ -434,15 +434,15 @@ pub record Printed : Type 0 where
       ∷ (50 ∷ 32 ∷ 111 ∷ 107 ∷ 10 ∷ [])
       ∷ (51 ∷ 32 ∷ 114 ∷ 53 ∷ 10 ∷ [])
       ∷ [])
-  -- Home's tokens go to board 1 and come back bare, byte for byte, and home reads (document 02, No. 2): "0 ok", "1 ok", "2 d1.0", "3 ok", "4 d0.0",
+  -- Home's tokens go to board 2 and come back bare, byte for byte, and home reads (document 02, No. 2): "0 ok", "1 ok", "2 d2.0", "3 ok", "4 d0.0",
   -- "5 v00000000"
   pub bare-home :
       ruledText
-      (0x02 ∷ 0x01 ∷ 0x03 ∷ joined (stepBytes (Send 0 0 1 2 true true) ∷ stepBytes (Deliver 0) ∷ bareSendBytes ∷ stepBytes (Deliver 0) ∷ homeLoadBytes ∷ []))
+      (0x02 ∷ 0x01 ∷ 0x03 ∷ joined (stepBytes (Send 0 0 2 2 true true) ∷ stepBytes (Deliver 0) ∷ bareSendBytes ∷ stepBytes (Deliver 0) ∷ homeLoadBytes ∷ []))
       ≡ joined
       ((48 ∷ 32 ∷ 111 ∷ 107 ∷ 10 ∷ [])
       ∷ (49 ∷ 32 ∷ 111 ∷ 107 ∷ 10 ∷ [])
-      ∷ (50 ∷ 32 ∷ 100 ∷ 49 ∷ 46 ∷ 48 ∷ 10 ∷ [])
+      ∷ (50 ∷ 32 ∷ 100 ∷ 50 ∷ 46 ∷ 48 ∷ 10 ∷ [])
       ∷ (51 ∷ 32 ∷ 111 ∷ 107 ∷ 10 ∷ [])
       ∷ (52 ∷ 32 ∷ 100 ∷ 48 ∷ 46 ∷ 48 ∷ 10 ∷ [])
       ∷ (53 ∷ 32 ∷ 118 ∷ 48 ∷ 48 ∷ 48 ∷ 48 ∷ 48 ∷ 48 ∷ 48 ∷ 48 ∷ 10 ∷ [])

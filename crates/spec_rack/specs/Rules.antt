@@ -42,7 +42,7 @@ dirtied Away = Away
 dirtied Dirty = Dirty
 dirtied Clean = Dirty
 
--- store: writes the word in that component only
+-- store: writes the word in that component only, and makes the owner there dirty
 abbrev pub withWord : Cell → ℕ → ℕ → Cell
 withWord x w v = record { plain = x .plain; owner = dirtied (x .owner); valid = x .valid; words = set (x .words) w v }
 
@@ -77,10 +77,10 @@ sent r c b t p o d =
     withCell r b c (withoutTokens x p o) (r .mesh ++ message x c b t p o d ∷ [])
 
 -- the owner of component c after a delivery, by its own and the message's: a dirty one becomes clean at home and stays dirty at a board
-abbrev pub joined : Owner → Owner → ℕ → Owner
-joined own Away c = own
-joined own Clean c = Clean
-joined own Dirty c = cond (isHome c) Clean Dirty
+abbrev pub joinedOwner : Owner → Owner → ℕ → Owner
+joinedOwner own Away c = own
+joinedOwner own Clean c = Clean
+joinedOwner own Dirty c = cond (isHome c) Clean Dirty
 
 -- deliver: adds its tokens to the target; with data, the words become the message's and valid becomes yes; home becomes valid also by a clean owner, with
 -- the words that it has
@@ -88,7 +88,7 @@ abbrev pub withTokens : Cell → Message → Cell
 withTokens x m =
     record {
       plain = x .plain + m .header .plain;
-      owner = joined (x .owner) (m .header .owner) (m .header .target);
+      owner = joinedOwner (x .owner) (m .header .owner) (m .header .target);
       valid = x .valid || supplied (m .header);
       words = cond (m .header .«data») (m .words) (x .words);
     }
@@ -134,7 +134,7 @@ check r (Load c b w) =
     Pass
 check r (Store c b w v) =
     when offRack r c b || pastWords w refuse OffRack else
-    when eqb c 0 refuse Home else  -- also where home holds all T
+    when isHome c refuse Home else  -- also where home holds all T
     when ltb (held (cellAt r b c)) (r .tokens) refuse Short else
     Pass
 check r (Send c b t p o d) =
@@ -152,11 +152,11 @@ check r (Deliver i) =
     Pass
 check r (Raise c b) =
     when offRack r c b refuse OffRack else
-    when eqb c 0 refuse Home else  -- home never waits
+    when isHome c refuse Home else  -- home never waits
     raiseCheck (claimsAt r b) c
 check r (Lower c b) =
     when offRack r c b refuse OffRack else
-    when eqb c 0 refuse Home else  -- 4, and not 17
+    when isHome c refuse Home else  -- 4, and not 17
     lowerCheck (claimsAt r b) c
 check r (Forward c b) =
     when offRack r c b refuse OffRack else

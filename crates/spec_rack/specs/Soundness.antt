@@ -1,5 +1,5 @@
--- Document 01, "The rack": "Sound means", with document 02, No. 2. Each line has the paper's words beside it. First of a rack, then of the bytes in a lent buffer.
--- Lists, unlike the record's arrays, have no fixed length, so lengths are conditions as well.
+-- Document 01, "The rack": "Sound means", with document 02, No. 2. Each line has the paper's words beside it. First of a rack, then of the bytes in a
+-- lent buffer. Lists, unlike the record's arrays, have no fixed length, so lengths are conditions as well.
 use Prim.Native.Nat.{ℕ, suc}
 use mathlib.Core.Bool.{Bool, not, _&&_}
 use mathlib.Core.List.{List}

@@ -1,13 +1,13 @@
 -- What a check that passes tells: down the refusal table each test has failed.
 use mathlib.Core.Path.{_≡_, refl}
-use mathlib.Core.Bool.{Bool, true, false, _||_}
+use mathlib.Core.Bool.{Bool, true, false}
 use mathlib.Core.List.{List}
 use Prim.Native.Nat.{ℕ, _≤_, _<_}
 use native.Mathlib.Nat.{le-refl}
 use native.Mathlib.Omega.{arith}
 use borrow.Author.Tests.{ltb-false, leb-false, eqb-false}
 use lib.Dec.{eqb, leb, ltb}
-use lib.ListN.{length, getD}
+use lib.ListN.{length}
 use Rattle.spec_base.proofs.Tests.{or-l}
 use Rattle.spec_wire.specs.declared.Refusal.the-variants.{OffRack, Home}
 use Rattle.spec_wire.specs.declared.Check.{Check}

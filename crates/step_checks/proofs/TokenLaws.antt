@@ -8,7 +8,7 @@ use Rattle.spec_rack.specs.declared.Owner.the-variants.{Away, Dirty, Clean}
 use Rattle.spec_rack.specs.declared.MessageHeader.{MessageHeader}
 use Rattle.spec_rack.specs.declared.Message.{Message}
 use Rattle.spec_rack.specs.Rack.{Cell, present, owners, mayGoBare, supplied}
-use Rattle.spec_rack.specs.Rules.{keptOwner, joined, withoutTokens, withTokens}
+use Rattle.spec_rack.specs.Rules.{keptOwner, joinedOwner, withoutTokens, withTokens}
 use Rattle.record.specs.declared.TokenState.{TokenState}
 use Rattle.record.specs.Changes.{TokenStateOf}
 
@@ -25,12 +25,12 @@ module _ (state : TokenState) (x : Cell) (told : TokenStateOf x state) where
       }
 
   pub more-is : (h : MessageHeader) (m : Message) → h ≡ m .header → (present (h .owner) ≡ true → supplied h ≡ true) → (owner : Owner) (here cargo valid : Bool)
-      → owner ≡ joined (state .owner) (h .owner) (h .target) → here ≡ present (h .owner) → cargo ≡ (h .«data» || here) → valid ≡ (state .valid || cargo)
+      → owner ≡ joinedOwner (state .owner) (h .owner) (h .target) → here ≡ present (h .owner) → cargo ≡ (h .«data» || here) → valid ≡ (state .valid || cargo)
       → TokenStateOf (withTokens x m) (record { plain = state .plain + h .plain; owner = owner; valid = valid })
   more-is h m e current owner here cargo valid eo eh ec ev =
       record {
         plain = λ i. told .plain i + e i .plain;
-        owner = eo ∙ (λ i. joined (told .owner i) (e i .owner) (e i .target));
+        owner = eo ∙ (λ i. joinedOwner (told .owner i) (e i .owner) (e i .target));
         valid =
             ev ∙ (λ i. state .valid || (ec ∙ ap (λ (y : Bool). h .«data» || y) eh ∙ same (h .«data») (h .owner) (h .target) current) i)
             ∙ (λ i. told .valid i || supplied (e i));

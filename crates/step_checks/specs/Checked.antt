@@ -1,12 +1,11 @@
 -- Document 01, "Refusal table": whether no line of a table matched, and the two lines that a raise and a lower begin with.
 use Prim.Native.Nat.{ℕ}
 use mathlib.Core.Bool.{Bool, true, false}
-use lib.Dec.{eqb}
 use Rattle.spec_wire.specs.declared.Refusal.the-variants.{OffRack, Home}
 use Rattle.spec_wire.specs.declared.Check.{Check}
 use Rattle.spec_wire.specs.declared.Check.the-variants.{Pass, Refuse}
 use Rattle.spec_wire.specs.Refusals.{when_refuse_else_}
-use Rattle.spec_rack.specs.Rack.{Rack}
+use Rattle.spec_rack.specs.Rack.{Rack, isHome}
 use Rattle.spec_rack.specs.Rules.{offRack}
 
 abbrev pub isPass : Check → Bool
@@ -17,5 +16,5 @@ isPass (Refuse n) = false
 unfoldable pub boardLines : Rack → ℕ → ℕ → Check → Check
 boardLines r c b rest =
     when offRack r c b refuse OffRack else
-    when eqb c 0 refuse Home else
+    when isHome c refuse Home else
     rest

@@ -39,13 +39,13 @@ fn token_lines(
 {
     let full = checks::line(checks::mesh_full(rec), Refusal::MeshFull, Check::Pass);
     let stale = checks::line(both(data, !state.valid), Refusal::NoData, full);
-    let held = state.owner;
+    let token = state.owner;
     let bare = checks::line(
-        both(both(owner, !data), !tokens::may_go_bare(held, target)),
+        both(both(owner, !data), !tokens::may_go_bare(token, target)),
         Refusal::BareOwner,
         stale,
     );
-    let lacks = either(state.plain < plain, both(owner, !is_present(held)));
+    let lacks = either(state.plain < plain, both(owner, !is_present(token)));
     let short = checks::line(lacks, Refusal::NotHeld, bare);
     checks::line(
         tokens::token_count(plain, owner) == 0,
@@ -90,9 +90,9 @@ fn append_message(
     plain: u8,
     owner: bool,
     data: bool,
-    held: Owner,
+    token: Owner,
 )
-    requires { ⌜ CanSend (now rec) component block plain × (held ≡ cellAt (get (now rec)) block component .owner) ⌝ }
+    requires { ⌜ CanSend (now rec) component block plain × (token ≡ cellAt (get (now rec)) block component .owner) ⌝ }
     ensures { λ r. ⌜ now (rec .exit) ≡ put (withMesh (get (now (rec .entry))) (get (now (rec .entry)) .mesh ++ message (cellAt (get (now (rec .entry))) block component) component block target plain owner «data» ∷ [])) (now (rec .entry)) ⌝ }
 {
     let header = MessageHeader {
@@ -100,7 +100,7 @@ fn append_message(
         target,
         block,
         plain,
-        owner: tokens::taken_owner(owner, held),
+        owner: tokens::taken_owner(owner, token),
         data,
     };
     if data {
@@ -131,8 +131,8 @@ pub fn send_tokens(
     ensures { λ r. ⌜ now (rec .exit) ≡ put (sent (get (now (rec .entry))) component block target plain owner «data») (now (rec .entry)) ⌝ }
 {
     let state = record::cells::token_state(rec, block, component);
-    let held = state.owner;
-    append_message(rec, component, block, target, plain, owner, data, held);
+    let token = state.owner;
+    append_message(rec, component, block, target, plain, owner, data, token);
     tokens::keep(
         rec,
         component,

@@ -9,8 +9,9 @@ use crate::{Refusal, Step, View};
 /// may store the bytes, and go on with them later by [`Record::over`].
 ///
 /// A record that was opened before owners had marks ([`Owner`](crate::Owner)) is not to be used any
-/// longer: open a new one. The marks stand where it has room, in bytes that nobody wrote. It may be
-/// refused with [`Refusal::Unsound`], or be sound with marks that are wrong.
+/// longer: open a new one. The marks of components stand where it has room, in bytes that nobody
+/// wrote; those of messages are 0 there. It may be refused with [`Refusal::Unsound`], or be sound
+/// with marks that are wrong.
 ///
 /// ```
 /// use hyaloneth::{Record, Refusal, Reply, Step};

@@ -29,8 +29,9 @@ pub struct View<'a> {
 /// The owner token of a block, as a component or a message has it: away, or there with its mark.
 ///
 /// Fresh owners are clean. A store makes the owner dirty, also a store of the value that was there
-/// already. A delivery to home makes it clean. Otherwise the mark travels as it is. Where the owner
-/// is clean, home has the words of the block, so a board may send it home without data:
+/// already. A delivery to home makes it clean. Otherwise the mark travels as it is. In a record that
+/// was opened and then changed by steps alone, home has the words of every block whose owner is
+/// clean. So a board may send a clean owner home without data:
 ///
 /// ```
 /// use hyaloneth::{Owner, Record, Refusal, Reply, Step};
@@ -67,10 +68,10 @@ pub struct View<'a> {
 pub enum Owner {
     /// The owner is elsewhere.
     Away,
-    /// The owner is here, and a store was made since it was last at home.
-    Dirty,
     /// The owner is here, and no store was made since it was last at home.
     Clean,
+    /// The owner is here, and a store was made since it was last at home.
+    Dirty,
 }
 
 impl Owner {

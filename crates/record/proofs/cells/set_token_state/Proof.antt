@@ -1,4 +1,4 @@
--- `record::cells::set_token_state` meets its contract: one byte in each of three lanes; every other component keeps its bytes.
+-- `record::cells::set_token_state` meets its contract: one byte in each of four lanes; every other component keeps its bytes.
 use mathlib.Core.Path.{_∙_}
 use Rattle.record.proofs.FieldAccess.{set-marks-is}
 use borrow.Author.Needs.{needs}

@@ -1,4 +1,4 @@
--- `step_checks::tokens::token_count` meets its contract: by the owner's mark.
+-- `step_checks::tokens::token_count` meets its contract: by whether the owner is there.
 use mathlib.Core.Path.{ap}
 use native.Mathlib.Omega.{arith}
 use Rattle.spec_base.specs.Folds.{toℕ}

@@ -26,7 +26,7 @@ returns c =
     let owner = way .before .taken-owner in
     let s = way .before .before .before in
     appended-data (s .args .rec .now) (λ j. way .before .before .slice-known .given j .fits) (s .args .component) (s .args .block) (s .args .plain) (s .pre .0)
-    (s .args .target) (s .fits .target .fits) (s .args .owner) (s .args .«data») (s .args .held) (owner .result) (s .pre .1) (owner .ensures)
+    (s .args .target) (s .fits .target .fits) (s .args .owner) (s .args .«data») (s .args .token) (owner .result) (s .pre .1) (owner .ensures)
     (way .if1 .taken) (told .words-of .result) (told .words-of .ensures) (c .before .before .append .last .0) (c .before .before .append .ensures)
 
 same-length-2 : tie.Need-same-length-2
@@ -38,7 +38,7 @@ returns-2 c =
     let owner = way .before .taken-owner in
     let s = way .before .before .before in
     appended-bare (s .args .rec .now) (λ j. way .before .before .slice-known .given j .fits) (s .args .component) (s .args .block) (s .args .plain) (s .pre .0)
-    (s .args .target) (s .fits .target .fits) (s .args .owner) (s .args .«data») (s .args .held) (owner .result) (s .pre .1) (owner .ensures)
+    (s .args .target) (s .fits .target .fits) (s .args .owner) (s .args .«data») (s .args .token) (owner .result) (s .pre .1) (owner .ensures)
     (way .if1 .left) (c .before .before .append2 .last .0) (c .before .before .append2 .ensures)
 
 pub append-message-spec : {M : Type 1} → statement M
