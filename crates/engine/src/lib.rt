@@ -1,6 +1,5 @@
-// The engine for C and Rust: a slice is a pointer and a length, a result is one number (`results`).
-// order: results, step, run, lib
-pub mod results;
+// The engine for C and Rust: a slice is a pointer and a length, a result is one number (`engine_results`).
+// order: step, run, lib
 pub mod run;
 pub mod step;
 
@@ -16,7 +15,7 @@ ghost use Rattle.spec_rack.specs.Lists.{RunResult};
 pub extern "C" fn hyl_record_len(blocks: u32) -> u64
     ensures { λ r. ⌜ r ≡ packedLength blocks ⌝ }
 {
-    results::record_length(blocks)
+    engine_results::record_length(blocks)
 }
 
 // Opens a record at the front of a buffer.
@@ -25,7 +24,7 @@ pub extern "C" fn hyl_open(rec: &mut [u8], boards: u32, blocks: u32, tokens: u32
     ensures reply { λ r. ⌜ r ≡ packedReply (openReply boards blocks tokens (now (rec .entry))) ⌝ }
     ensures buffer { λ r. ⌜ now (rec .exit) ≡ openAfter boards blocks tokens (now (rec .entry)) ⌝ }
 {
-    results::reply(record_open::open(rec, boards, blocks, tokens))
+    engine_results::reply(record_open::open(rec, boards, blocks, tokens))
 }
 
 // Gives the bytes of a step to the record.
@@ -51,5 +50,5 @@ pub extern "C" fn hyl_run(rec: &mut [u8], list: &[u8], at: &mut usize, replies: 
 pub extern "C" fn hyl_letter(rec: &[u8], component: u32, block: u32) -> u64
     ensures { λ r. ⌜ r ≡ packedLetter (letterReply (now (rec .entry)) component block) ⌝ }
 {
-    results::lettered(engine_letter::letter(rec, component, block))
+    engine_results::lettered(engine_letter::letter(rec, component, block))
 }

@@ -3,7 +3,7 @@ ghost use mathlib.Core.Path.{_≡_};
 ghost use Rattle.spec_rack.specs.Soundness.{soundBytes};
 ghost use Rattle.spec_rack.specs.Entries.{stepReply, stepAfter};
 ghost use Rattle.spec_rack.specs.Results.{packedReply};
-use super::results::reply;
+use engine_results::reply;
 
 // Gives the bytes of a step to a record whose soundness is known. `hyl_step` and `hyl_run` both call this, so that the reply is packed where it is made and
 // does not go through memory.

@@ -18,7 +18,7 @@ use Rattle.spec_wire.proofs.RefusalTable.{number-known}
 use Rattle.spec_rack.specs.declared.Answer.the-variants.{Done, Word, Served}
 use Rattle.spec_rack.specs.declared.Reply.{Reply}
 use Rattle.spec_rack.specs.declared.Reply.the-variants.{Accepted, Refused}
-use Rattle.spec_rack.specs.Rackrun.{digit, digits, decimal, replyText, replyLine, line}
+use Rattle.spec_rackrun.specs.Rackrun.{digit, digits, decimal, replyText, replyLine, line}
 
 -- ---- lengths
 

@@ -18,7 +18,7 @@ use Rattle.spec_wire.specs.declared.Refusal.the-variants.{Torn}
 use Rattle.spec_rack.specs.declared.Answer.{Answer}
 use Rattle.spec_rack.specs.declared.Reply.{Reply}
 use Rattle.spec_rack.specs.declared.Reply.the-variants.{Accepted, Refused}
-use Rattle.spec_rack.specs.Rackrun.{line, lines, stepLines, openingReply, openingAfter, stepsOffset, text, afterSteps, recordAfterRun}
+use Rattle.spec_rackrun.specs.Rackrun.{line, lines, stepLines, openingReply, openingAfter, stepsOffset, text, afterSteps, recordAfterRun}
 use Rattle.rackrun_text.proofs.LineLaws.{length-line}
 use Rattle.spec_rack.specs.Opening.{openReply, openAfter}
 use Rattle.spec_rack.specs.Entries.{stepReply, stepAfter}
@@ -26,8 +26,8 @@ use Rattle.spec_wire.specs.Frames.{frameSize, frames}
 use Rattle.spec_rack.specs.Lists.{runAll, repliesOf, replies, after}
 use Rattle.wire_frames.proofs.Framing.{cuts-first, cuts-none, span}
 use Rattle.spec_rack.specs.RecordLayout.{longestRecord}
-use Rattle.spec_rack.specs.RuledText.{ruledText}
-use Rattle.spec_rack.proofs.RuledText.{text-by-rules}
+use Rattle.spec_rackrun.specs.RuledText.{ruledText}
+use Rattle.spec_rackrun.proofs.RuledText.{text-by-rules}
 
 -- ---- the steps' lines
 

@@ -4,7 +4,7 @@ ghost use Prim.Native.Nat.{_+_, _≤_, _<_};
 ghost use mathlib.Core.List.{[], _∷_, _++_};
 ghost use lib.ListN.{length};
 ghost use Rattle.spec_base.specs.Placing.{place};
-ghost use Rattle.spec_rack.specs.Rackrun.{digit, digits, decimal, replyLine, line};
+ghost use Rattle.spec_rackrun.specs.Rackrun.{digit, digits, decimal, replyLine, line};
 use spec_rack::Answer;
 use spec_rack::Reply;
 

@@ -5,8 +5,7 @@ use mathlib.Core.Bool.{Bool, true, false, not, _&&_, _||_}
 use mathlib.Core.List.{List, [], _∷_}
 use borrow.Author.Tests.{eq-eqb, lt-leb, not-true}
 use lib.ListN.{length, length-replicate}
-use lib.Dec.{eqb, leb, ltb}
-use Rattle.spec_base.specs.Folds.{all, implies, removeAt}
+use Rattle.spec_base.specs.Folds.{implies, removeAt}
 use Rattle.spec_base.proofs.Tests.{differs, and-l, and-r, and-left, and-right, or-l, or-right, not-of-true}
 use Rattle.spec_wire.specs.declared.Refusal.{Refusal}
 use Rattle.spec_wire.specs.declared.Refusal.the-variants.{OffRack, NoData, SelfSend, Claimed, Empty, NotHeld, BareOwner, MeshFull}
@@ -17,12 +16,10 @@ use Rattle.spec_wire.specs.declared.Step.{Step}
 use Rattle.spec_wire.specs.declared.Step.the-variants.{Load, Store, Send, Deliver, Raise, Lower, Forward}
 use Rattle.spec_rack.specs.declared.Owner.{Owner}
 use Rattle.spec_rack.specs.declared.Owner.the-variants.{Clean, Dirty}
-use Rattle.spec_rack.specs.declared.Message.{Message}
 use Rattle.spec_rack.specs.declared.Answer.{Answer}
-use Rattle.spec_rack.specs.declared.Answer.the-variants.{Done}
 use Rattle.spec_rack.specs.declared.Reply.the-variants.{Refused}
-use Rattle.spec_rack.specs.Rack.{Cell, Rack, noCell, noMessage, fresh, blockAt, cellAt, messageAt, carried as messageTokens, present, mayGoBare}
-use Rattle.spec_rack.specs.Soundness.{eightWords, sound, sizes}
+use Rattle.spec_rack.specs.Rack.{Cell, Rack, noCell, noMessage, fresh, blockAt, cellAt, messageAt, present, mayGoBare}
+use Rattle.spec_rack.specs.Soundness.{soundFields, sound, sizes}
 use Rattle.spec_rack.specs.Rules.{Outcome, accepted, settled, check, after, answer, rules, sent, withTokens, delivered, offRack, reply, rackAfter}
 use Rattle.spec_rack.specs.FlatMemory.{Memory, blank, memoryAfter}
 use Rattle.spec_rack.specs.RecordLayout.{get}
@@ -57,11 +54,12 @@ lines refusal off self claimed none short bare stale full =
 -- ---- a send of a clean owner to home
 
 -- with a test of 12 that fails, and of 6 that fails on the rack
-same-reply : (refusal : Refusal) (r r′ : Rack) (off self claimed none short bare stale full : Bool) → bare ≡ false → (off ≡ false → stale ≡ false)
-    → reply (settled (lines refusal off self claimed none short bare false full) Done r) ≡ reply (settled (lines refusal off self claimed none short false stale full) Done r′)
+same-reply : (refusal : Refusal) (answered : Answer) (r r′ : Rack) (off self claimed none short bare stale full : Bool) → bare ≡ false → (off ≡ false → stale ≡ false)
+    → reply (settled (lines refusal off self claimed none short bare false full) answered r)
+    ≡ reply (settled (lines refusal off self claimed none short false stale full) answered r′)
 unfolding when_refuse_else_
-same-reply refusal r r′ true self claimed none short bare stale full e f = refl
-same-reply refusal r r′ false self claimed none short bare stale full e f = rw (e, f refl) (any-rack (lines refusal false self claimed none short false false full) Done r r′)
+same-reply refusal answered r r′ true self claimed none short bare stale full e f = refl
+same-reply refusal answered r r′ false self claimed none short bare stale full e f = rw (e, f refl) (any-rack (lines refusal false self claimed none short false false full) answered r r′)
 
 clean-bare : (w : Owner) → w ≡ Clean → not (mayGoBare w 0) ≡ false
 clean-bare w e = ap (λ (y : Owner). not (mayGoBare y 0)) e
@@ -70,7 +68,7 @@ home-send : (r : Rack) (c b p : ℕ) → sound r ≡ true → cellAt r b c .owne
 unfolding rules check after answer
 home-send r c b p ok e =
     let s = sound-facts r ok in
-    same-reply _ _ _ _ _ _ _ _ _ _ _ (search clean-bare)
+    same-reply _ _ _ _ _ _ _ _ _ _ _ _ (search clean-bare)
     (λ known.
     let on = or-l (offRack r c b) _ known in
     not-of-true (cellAt r b c .valid) (cell-sound r s b c (inB r s c b on) (inN r s c b on) .current (ap present e)))
@@ -97,10 +95,10 @@ step-same r (Raise c b) e = refl
 step-same r (Lower c b) e = refl
 step-same r (Forward c b) e = refl
 
-module _ (r : Rack) where
+module _ (answered : Answer) (r : Rack) where
   -- only its line refuses with 12
   by-12 : (off self claimed none short bare stale full : Bool)
-      → reply (settled (lines BareOwner off self claimed none short bare stale full) Done r) ≡ Refused BareOwner → bare ≡ true
+      → reply (settled (lines BareOwner off self claimed none short bare stale full) answered r) ≡ Refused BareOwner → bare ≡ true
   unfolding when_refuse_else_
   by-12 true self claimed none short bare stale full e = cc
   by-12 false true claimed none short bare stale full e = cc
@@ -114,7 +112,7 @@ module _ (r : Rack) where
 
   -- a send that is accepted is past it
   past-12 : (a : Answer) (r′ : Rack) (off self claimed none short bare stale full : Bool)
-      → settled (lines BareOwner off self claimed none short bare stale full) Done r ≡ accepted a r′ → bare ≡ false
+      → settled (lines BareOwner off self claimed none short bare stale full) answered r ≡ accepted a r′ → bare ≡ false
   unfolding when_refuse_else_
   past-12 a r′ true self claimed none short bare stale full e = cc
   past-12 a r′ false true claimed none short bare stale full e = cc
@@ -135,24 +133,13 @@ same-list (s ∷ ss) r h =
       rest .1 ∙ ap (λ (o : Outcome). runAll afterBeforeBare (rackAfter r o) ss) same,
     )
 
--- what is asked of every message, with the owner or without
-abbrev asked : ℕ → ℕ → Message → Bool
-asked n b m =
-    let h = m .header in
-    eightWords (m .words)
-    && implies (not (h .«data»)) (all (eqb 0) (m .words))
-    && leb (h .sender) n
-    && leb (h .target) n && not (eqb (h .sender) (h .target))
-    && ltb (h .block) b
-    && ltb 0 (messageTokens m)
-
 pub as-before : AsBefore
 as-before =
     record {
-      message = λ n b m h. ap (λ (z : Bool). asked n b m && implies (present (m .header .owner)) z) (valid-before (m .header .«data») _ h);
+      message = λ n b m h. ap (λ (z : Bool). soundFields n b m && implies (present (m .header .owner)) z) (valid-before (m .header .«data») _ h);
       step = step-same;
       accepted-send = λ r c b t p o d a r′ e.
-          step-same r (Send c b t p o d) (and-left (o && not d) _ (past-12 (sent r c b t p o d) a r′ _ _ _ _ _ (o && not d) _ _ e)) ∙ e;
+          step-same r (Send c b t p o d) (and-left (o && not d) _ (past-12 _ (sent r c b t p o d) a r′ _ _ _ _ _ (o && not d) _ _ e)) ∙ e;
       list = λ r ss. same-list ss r;
     }
 
@@ -165,7 +152,7 @@ bare-sends =
       home = home-send;
       given = λ r c b t p o d e u. ap reply (step-same r (Send c b t p o d) (and-right (o && not d) _ u)) ∙ e;
       only = λ r c b t p o d e.
-          let u = not-true _ (and-r (o && not d) _ (by-12 (sent r c b t p o d) _ _ _ _ _ _ _ _ e)) in
+          let u = not-true _ (and-r (o && not d) _ (by-12 _ (sent r c b t p o d) _ _ _ _ _ _ _ _ e)) in
           (sym (ap reply (step-same r (Send c b t p o d) (and-right (o && not d) _ u))) ∙ e, u);
     }
 

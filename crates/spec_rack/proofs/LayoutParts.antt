@@ -19,6 +19,10 @@ use Rattle.spec_rack.specs.declared.Owner.the-variants.{Away, Dirty, Cle
 use Rattle.spec_rack.specs.declared.Message.{Message}
 use Rattle.spec_rack.specs.Rack.{present, Cell, Block}
 
+-- the tokens of a component that has nothing of a block
+abbrev pub noTokens : Tokens
+noTokens = (0, (Away, false))
+
 -- ---- what each part can hold
 
 abbrev pub TokensFit : Tokens → Type 0

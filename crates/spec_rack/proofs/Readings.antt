@@ -11,20 +11,17 @@ use Rattle.spec_wire.specs.Refusals.{number, when_refuse_else_}
 use Rattle.spec_wire.specs.Kinds.{kindOf, fieldArray}
 use Rattle.spec_wire.specs.StepRecord.{fieldBytes, recordBytes, stepBytes}
 use Rattle.spec_wire.specs.Reader.{hasHeader, readBody, readRecord}
-use Rattle.spec_wire.specs.Frames.{frameSize, frames}
 use Rattle.spec_rack.specs.Boards.{bit, member, insert, remove, subset, boardsOnly, firstFrom, lowest}
 use Rattle.spec_rack.specs.Claims.{raiseCheck, raised, lowerCheck, lowered, soundBarring, soundClaims}
 use Rattle.spec_rack.specs.Rack.{meshLimit}
 use Rattle.spec_rack.specs.Soundness.{sound, wellFormedRecord, soundBytes}
-use Rattle.spec_rack.specs.Rules.{check, after, answer, rules, openingCheck, opening, stored, sent, delivered, forwarded}
+use Rattle.spec_rack.specs.Rules.{check, after, answer, rules, stored, sent, delivered, forwarded}
 use Rattle.spec_rack.specs.Letter.{letterCheck, letter, letterReply}
 use Rattle.spec_rack.specs.FlatMemory.{flat}
-use Rattle.spec_rack.specs.Lists.{runAll, repliesOf, answersOf, accessesOf}
-use Rattle.spec_rack.specs.Opening.{openCheck, openReply, openAfter}
+use Rattle.spec_rack.specs.Lists.{runAll, answersOf, accessesOf}
+use Rattle.spec_rack.specs.Opening.{openCheck, openReply}
 use Rattle.spec_rack.specs.Entries.{stepReply}
-use Rattle.spec_rack.specs.Rackrun.{decimal, digits, replyText, line, lines, openingReply, openingAfter, text}
-use Rattle.spec_rack.specs.RuledText.{ruledText}
-use Rattle.spec_rack.specs.Readings.{listed, among, OnlyNaming, FirstMatch, Edges, Effects, FlatMemory, RaiseAndLower, Soundness, Printed}
+use Rattle.spec_rack.specs.Readings.{listed, among, OnlyNaming, FirstMatch, Edges, Effects, FlatMemory, RaiseAndLower, Soundness}
 
 -- a line of the table with a number of the list, above lines that keep to it
 keeps : (ns : List ℕ) (t : Bool) (n : Refusal) (k : Check) → listed (number n) ns ≡ true → among ns k ≡ true → among ns (when t refuse n else k) ≡ true
@@ -205,23 +202,4 @@ soundness =
       both-wait = refl;
       waiting-is-barred = refl;
       last-is-barred = refl;
-    }
-
-pub printed : Printed
-unfolding runAll when_refuse_else_ check after answer rules letterCheck letter meshLimit stored sent delivered forwarded raiseCheck raised lowerCheck lowered bit member insert remove firstFrom lowest opening openingCheck repliesOf ruledText lines stepBytes fieldBytes recordBytes fieldArray frameSize frames readRecord readBody hasHeader kindOf decimal digits replyText line text openingReply openCheck openReply openAfter openingAfter
-printed =
-    record {
-      ok = refl;
-      word = refl;
-      refusal = refl;
-      longest = refl;
-      served = refl;
-      served-largest = refl;
-      under-three = refl;
-      bad-sizes = refl;
-      example = refl;
-      whom = refl;
-      home-loads = refl;
-      bare-home = refl;
-      torn-ones = refl;
     }

@@ -54,7 +54,7 @@ module _ (x : Cell) (m : Message) where
   -- at most one of the two has the owner
   more-has : (mem : Memory) (b : ℕ) → CellHas mem b x → (m .header .«data» ≡ true → m .words ≡ getD mem b [])
       → (mayGoBare (m .header .owner) (m .header .target) ≡ true → x .words ≡ getD mem b []) → CellHas mem b (withTokens x m)
-  more-has mem b hx hm hb v = more-words (getD mem b []) hm (λ e. go (x .valid) (m .header .«data») _ v hx e (search (hb, and-l)))
+  more-has mem b hx hm hb v = more-words (getD mem b []) hm (λ e. go (x .valid) (m .header .«data») _ v hx e (search hb))
     where
       -- without data the target was valid, or the owner came bare
       go : (u d w : Bool) → (u || (d || w)) ≡ true → (u ≡ true → x .words ≡ getD mem b []) → d ≡ false → (w ≡ true → x .words ≡ getD mem b [])

@@ -6,8 +6,8 @@ use mathlib.Core.Path.{_≡_}
 use mathlib.Core.Bool.{Bool, true, false, not, cond, _&&_, _||_}
 use mathlib.Core.List.{List, [], _∷_}
 use lib.ListN.{length, getD}
-use lib.Dec.{eqb, leb, ltb}
-use Rattle.spec_base.specs.Folds.{toℕ, all, implies, removeAt}
+use lib.Dec.{eqb, ltb}
+use Rattle.spec_base.specs.Folds.{toℕ, implies, removeAt}
 use Rattle.spec_base.specs.Number.{Bytes}
 use Rattle.spec_wire.specs.declared.Refusal.the-variants.{OffRack, NoData, SelfSend, Claimed, Empty, NotHeld, BareOwner, MeshFull, NoMessage}
 use Rattle.spec_wire.specs.declared.Check.{Check}
@@ -22,8 +22,8 @@ use Rattle.spec_rack.specs.declared.Answer.the-variants.{Done}
 use Rattle.spec_rack.specs.declared.Answer.{Answer}
 use Rattle.spec_rack.specs.declared.Reply.{Reply}
 use Rattle.spec_rack.specs.declared.Reply.the-variants.{Accepted, Refused}
-use Rattle.spec_rack.specs.Rack.{Cell, Rack, isHome, present, clean, mayGoBare, claimsAt, cellAt, messageAt, carried, fullCell}
-use Rattle.spec_rack.specs.Soundness.{eightWords, soundMessage, sound}
+use Rattle.spec_rack.specs.Rack.{Cell, Rack, isHome, present, clean, mayGoBare, claimsAt, cellAt, messageAt, fullCell}
+use Rattle.spec_rack.specs.Soundness.{soundFields, soundMessage, sound}
 use Rattle.spec_rack.specs.Rules.{Outcome, accepted, settled, opening, rules, withWord, withoutTokens, message, sent, joinedOwner, withTokens, withCell, answer, offRack, meshFull, pastMesh, reply, rackAfter}
 use Rattle.spec_rack.specs.FlatMemory.{blank, memoryAfter}
 use Rattle.spec_rack.specs.RecordLayout.{get}
@@ -158,15 +158,7 @@ isBare r (Forward c b) = false
 
 -- what document 01 asks of a message: data wherever it has the owner
 abbrev pub soundMessageBefore : ℕ → ℕ → Message → Bool
-soundMessageBefore n b m =
-    let h = m .header in
-    eightWords (m .words)
-    && implies (not (h .«data»)) (all (eqb 0) (m .words))
-    && leb (h .sender) n
-    && leb (h .target) n && not (eqb (h .sender) (h .target))
-    && ltb (h .block) b
-    && ltb 0 (carried m)
-    && implies (present (h .owner)) (h .«data»)
+soundMessageBefore n b m = soundFields n b m && implies (present (m .header .owner)) (m .header .«data»)
 
 -- no step of a list is one, at its turn
 abbrev pub noneBare : Rack → List Step → Bool

@@ -4,7 +4,7 @@ use mathlib.Core.Path.{sym, ap, _∙_}
 use mathlib.Core.List.{List, [], _∷_, _++_}
 use Rattle.spec_base.proofs.Placing.{placed-same}
 use Rattle.spec_rack.specs.declared.Reply.the-variants.{Accepted}
-use Rattle.spec_rack.specs.Rackrun.{replyText}
+use Rattle.spec_rackrun.specs.Rackrun.{replyText}
 use Rattle.rackrun_text.proofs.LineLaws.{said-done, said-word, said-refused, reply-placed}
 use borrow.Author.Needs.{needs}
 use Rattle.rackrun_text.proofs.line.put_reply.Statement.{statement}

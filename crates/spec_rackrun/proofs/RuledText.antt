@@ -20,22 +20,22 @@ use Rattle.spec_wire.specs.Frames.{frames}
 use Rattle.spec_wire.specs.Reader.{readRecord}
 use Rattle.spec_wire.proofs.RefusalTable.{stops, goes as past}
 use Rattle.spec_wire.proofs.RoundTrip.{read-fits}
 use Rattle.spec_rack.specs.declared.Answer.the-variants.{Done}
 use Rattle.spec_rack.specs.declared.Reply.{Reply}
 use Rattle.spec_rack.specs.declared.Reply.the-variants.{Accepted, Refused}
 use Rattle.spec_rack.specs.Rack.{Rack, fresh}
 use Rattle.spec_rack.specs.Soundness.{sizes}
 use Rattle.spec_rack.specs.Rules.{Outcome, refused, settled, rules, openingCheck, opening, rackAfter, reply, replyOf}
 use Rattle.spec_rack.specs.RecordLayout.{longestRecord, get}
 use Rattle.spec_rack.specs.Opening.{openCheck, openReply, openAfter}
 use Rattle.spec_rack.specs.Entries.{bufferAfterOutcome, outcome, stepReply, stepAfter}
 use Rattle.spec_rack.specs.Lists.{repliesOf, replies}
-use Rattle.spec_rack.specs.Rackrun.{line, lines, stepLines, openingReply, openingAfter, text}
-use Rattle.spec_rack.specs.RuledText.{ruled, ruledReplies, ruledLines, ruledText, OpeningBySizes, TextByRules}
+use Rattle.spec_rackrun.specs.Rackrun.{line, lines, stepLines, openingReply, openingAfter, text}
+use Rattle.spec_rackrun.specs.RuledText.{ruled, ruledReplies, ruledLines, ruledText, OpeningBySizes, TextByRules}
 use Rattle.spec_rack.proofs.StepPreservation.{StepFits}
 use Rattle.spec_rack.proofs.SoundRecord.{Live, live-of}
 use Rattle.spec_rack.proofs.OpeningLaws.{in-range, open-size, open-pass, open-get, open-sound, open-bytes}
 use Rattle.spec_rack.proofs.ByteLists.{Goes, goes, outcome-read, step-fits}
 
 -- ---- the opening
 

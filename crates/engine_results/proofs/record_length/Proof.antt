@@ -1,11 +1,11 @@
--- `engine::results::record_length` meets its contract: the test of the count of blocks.
-use Rattle.engine.proofs.RecordLengths.{length-none, length-many, length-given}
+-- `engine_results::record_length` meets its contract: the test of the count of blocks.
+use Rattle.engine_results.proofs.RecordLengths.{length-none, length-many, length-given}
 use native.Mathlib.Omega.{arith}
 use mathlib.Core.Path.{ap, _∙_}
 use Rattle.spec_wire.specs.Results.{done}
 use borrow.Author.Needs.{needs}
-use Rattle.engine.proofs.results.record_length.Statement.{statement}
-use Rattle.engine.proofs.results.record_length.Tie as tie
+use Rattle.engine_results.proofs.record_length.Statement.{statement}
+use Rattle.engine_results.proofs.record_length.Tie as tie
 
 pack-refused-requires : tie.Need-pack-refused-requires
 pack-refused-requires c κs = search needs

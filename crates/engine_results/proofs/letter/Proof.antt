@@ -1,9 +1,9 @@
--- `engine::results::letter` meets its contract: each arm knows its letter.
+-- `engine_results::letter` meets its contract: each arm knows its letter.
 use mathlib.Core.Path.{sym, ap}
 use Rattle.spec_rack.specs.Results.{letterNumber}
 use borrow.Author.Needs.{needs}
-use Rattle.engine.proofs.results.letter.Statement.{statement}
-use Rattle.engine.proofs.results.letter.Tie as tie
+use Rattle.engine_results.proofs.letter.Statement.{statement}
+use Rattle.engine_results.proofs.letter.Tie as tie
 
 enum-told : tie.Need-enum-told
 enum-told c = search needs

@@ -1,9 +1,9 @@
--- `engine::results::lettered` meets its contract: each arm knows what it was given.
+-- `engine_results::lettered` meets its contract: each arm knows what it was given.
 use Rattle.spec_rack.specs.Results.{packedLetter}
 use mathlib.Core.Path.{sym, ap, _∙_}
 use borrow.Author.Needs.{needs}
-use Rattle.engine.proofs.results.lettered.Statement.{statement}
-use Rattle.engine.proofs.results.lettered.Tie as tie
+use Rattle.engine_results.proofs.lettered.Statement.{statement}
+use Rattle.engine_results.proofs.lettered.Tie as tie
 
 enum-known-lettered : tie.Need-enum-known-lettered
 enum-known-lettered c = search needs

@@ -1,8 +1,8 @@
--- `engine::results::served` meets its contract: the sum of its parts is the packed number.
+-- `engine_results::served` meets its contract: the sum of its parts is the packed number.
 use native.Mathlib.Omega.{arith}
 use borrow.Author.Needs.{needs}
-use Rattle.engine.proofs.results.served.Statement.{statement}
-use Rattle.engine.proofs.results.served.Tie as tie
+use Rattle.engine_results.proofs.served.Statement.{statement}
+use Rattle.engine_results.proofs.served.Tie as tie
 
 mul-result : tie.Need-mul-result
 mul-result c = search needs

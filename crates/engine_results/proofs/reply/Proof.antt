@@ -1,10 +1,10 @@
--- `engine::results::reply` meets its contract: each arm knows its reply.
+-- `engine_results::reply` meets its contract: each arm knows its reply.
 use Rattle.spec_rack.specs.declared.Reply.the-variants.{Accepted}
 use Rattle.spec_rack.specs.Results.{packedReply}
 use mathlib.Core.Path.{sym, ap, _∙_}
 use borrow.Author.Needs.{needs}
-use Rattle.engine.proofs.results.reply.Statement.{statement}
-use Rattle.engine.proofs.results.reply.Tie as tie
+use Rattle.engine_results.proofs.reply.Statement.{statement}
+use Rattle.engine_results.proofs.reply.Tie as tie
 
 enum-known-reply : tie.Need-enum-known-reply
 enum-known-reply c = search needs

@@ -11,13 +11,13 @@ use Rattle.spec_wire.specs.declared.Reading.{Reading}
 use Rattle.spec_wire.specs.declared.Reading.the-variants.{Step, Refused}
 use Rattle.spec_wire.specs.Reader.{readRecord}
 use Rattle.spec_wire.specs.Frames.{frames}
 use Rattle.spec_rack.specs.declared.Reply.{Reply}
 use Rattle.spec_rack.specs.Rack.{Rack}
 use Rattle.spec_rack.specs.Rules.{Outcome, refused, accepted, rules, opening, rackAfter, reply}
 use Rattle.spec_rack.specs.RecordLayout.{longestRecord}
 use Rattle.spec_rack.specs.Opening.{openReply}
 use Rattle.spec_rack.specs.Lists.{repliesOf}
-use Rattle.spec_rack.specs.Rackrun.{line, lines, usedInput, text}
+use Rattle.spec_rackrun.specs.Rackrun.{line, lines, usedInput, text}
 
 -- what was read, given to a rack: what is no step is refused
 abbrev pub ruled : Rack → Reading → Outcome

@@ -1,0 +1,2 @@
+pub mod RuledText
+pub mod Printed

@@ -1,0 +1,3 @@
+pub mod Rackrun
+pub mod RuledText
+pub mod Printed

@@ -1,0 +1,1 @@
+// The text that rackrun writes. There is no code.
