@@ -1,10 +1,10 @@
 -- The state letter by bytes: a sound record is well-formed, so the cell's figures are read at their places, and the owner's byte is the number of owners.
-use Prim.Native.Nat.{ℕ, _+_, _≤_, _<_}
+use Prim.Native.Nat.{ℕ, zero, suc, _+_, _≤_, _<_}
 use native.Mathlib.Omega.{arith}
 use mathlib.Core.Path.{_≡_, refl, sym, ap, _∙_}
 use mathlib.Core.Bool.{true, false, cond, _||_}
 use mathlib.Core.List.{List}
-use borrow.Author.Tests.{ltb-false, leb-false, eq-eqb, ne-eqb}
+use borrow.Author.Tests.{ltb-false, leb-false, lt-ltb, le-ltb, eq-eqb, ne-eqb}
 use lib.Dec.{eqb, ltb, leb}
 use lib.ListN.{getD}
 use Rattle.spec_base.specs.Folds.{toℕ}
@@ -16,11 +16,11 @@ use Rattle.spec_wire.specs.Refusals.{when_refuse_else_}
 use Rattle.spec_wire.proofs.RefusalTable.{table}
 use Rattle.spec_base.specs.Number.{Bytes}
 use Rattle.spec_rack.specs.declared.Letter.{Letter}
-use Rattle.spec_rack.specs.declared.Letter.the-variants.{M, O, S, I}
+use Rattle.spec_rack.specs.declared.Letter.the-variants.{M, O, E, S, I}
 use Rattle.spec_rack.specs.declared.Lettered.the-variants as Lettered
-use Rattle.spec_rack.specs.Rack.{zeros, cellAt}
+use Rattle.spec_rack.specs.Rack.{clean, zeros, cellAt}
 use Rattle.spec_rack.specs.Letter.{letterCheck, letterOf, lettered, letter, letterReply}
-use Rattle.spec_rack.specs.RecordLayout.{blockOffset, ownerOffset, validOffset, dirtyOffset, toCell, cellAtOffset, get, blocksIn, boardsIn, tokensIn}
+use Rattle.spec_rack.specs.RecordLayout.{blockOffset, ownerOffset, validOffset, dirtyOffset, ownerOf, toCell, cellAtOffset, get, blocksIn, boardsIn, tokensIn}
 use Rattle.spec_rack.specs.Soundness.{soundBytes}
 use Rattle.spec_rack.proofs.GetPut.{boards-is, tokens-is, blocks-is}
 use Rattle.record.proofs.FieldOffsets.{tokens-at}
@@ -62,6 +62,12 @@ module _ (s : List ℕ) (c b : ℕ) (ok : soundBytes s ≡ true) where
           let e : blockOffset b + ownerOffset + c ≡ blockOffset b + c + ownerOffset = omega arith in
           rw e at (lanes-of s (whole s bytes ok .wellFormed) b (on-rack .0) .owners c (on-rack .1))
 
+      pub letter-dirty : getD s (blockOffset b + c + dirtyOffset) 0 ≤ getD s (blockOffset b + c + ownerOffset) 0
+      letter-dirty =
+          let e : blockOffset b + ownerOffset + c ≡ blockOffset b + c + ownerOffset = omega arith in
+          let d : blockOffset b + dirtyOffset + c ≡ blockOffset b + c + dirtyOffset = omega arith in
+          rw (e, d) at (lanes-of s (whole s bytes ok .wellFormed) b (on-rack .0) .dirties c (on-rack .1))
+
       pub letter-read : (x : Letter) → (c ≡ 0 → ⊥) → x ≡ letterOf (tokensIn s) (cellAtOffset s (blockOffset b + c)) → Lettered.Letter x ≡ letterReply s c b
       letter-read x h ex =
           ap Lettered.Letter ex
@@ -70,7 +76,16 @@ module _ (s : List ℕ) (c b : ℕ) (ok : soundBytes s ≡ true) where
 
 -- ---- the letter of a cell
 
-module _ (s : List ℕ) (at t : ℕ) (mark : getD s (at + ownerOffset) 0 < 2) where
+-- two bytes of the form: a clean owner is there without its mark
+clean-is : (o d : ℕ) → o < 2 → d ≤ o → clean (ownerOf (eqb o 1) (eqb d 1)) ≡ ltb d o
+clean-is zero zero a b = refl
+clean-is zero (suc d) a b = absurd (omega arith)
+clean-is (suc zero) zero a b = refl
+clean-is (suc zero) (suc zero) a b = refl
+clean-is (suc zero) (suc (suc d)) a b = absurd (omega arith)
+clean-is (suc (suc o)) d a b = absurd (omega arith)
+
+module _ (s : List ℕ) (at t : ℕ) (mark : getD s (at + ownerOffset) 0 < 2) (under : getD s (at + dirtyOffset) 0 ≤ getD s (at + ownerOffset) 0) where
   -- the bytes
   abbrev p : ℕ
   p = getD s at 0
@@ -81,16 +96,25 @@ module _ (s : List ℕ) (at t : ℕ) (mark : getD s (at + ownerOffset) 0 < 2) wh
   abbrev v : ℕ
   v = getD s (at + validOffset) 0
 
+  abbrev d : ℕ
+  d = getD s (at + dirtyOffset) 0
+
   owners-is : toℕ (eqb o 1) ≡ o
   owners-is = eqb-one o mark
 
-  cell-letter : letterOf t (cellAtOffset s at) ≡ cond (eqb (p + o) t) M (cond (eqb o 1) O (cond (eqb v 1) S I))
+  cell-letter : letterOf t (cellAtOffset s at) ≡ cond (eqb (p + o) t) (cond (ltb d o) E M) (cond (eqb o 1) O (cond (eqb v 1) S I))
   cell-letter =
-      (λ i. let here = present-is (eqb o 1) (eqb (getD s (at + dirtyOffset) 0) 1) i in cond (eqb (p + toℕ here) t) M (cond here O (cond (eqb v 1) S I)))
-      ∙ ap (λ (n : ℕ). cond (eqb (p + n) t) M (cond (eqb o 1) O (cond (eqb v 1) S I))) owners-is
+      (λ i.
+      let here = present-is (eqb o 1) (eqb d 1) i in
+      cond (eqb (p + toℕ here) t) (cond (clean-is o d mark under i) E M) (cond here O (cond (eqb v 1) S I)))
+      ∙ ap (λ (n : ℕ). cond (eqb (p + n) t) (cond (ltb d o) E M) (cond (eqb o 1) O (cond (eqb v 1) S I))) owners-is
 
-  pub letter-m : getD s at 0 + getD s (at + ownerOffset) 0 ≡ t → M ≡ letterOf t (cellAtOffset s at)
-  letter-m h = rw (cell-letter, eq-eqb (p + o) t h)
+  module _ (all : getD s at 0 + getD s (at + ownerOffset) 0 ≡ t) where
+    pub letter-e : getD s (at + dirtyOffset) 0 < getD s (at + ownerOffset) 0 → E ≡ letterOf t (cellAtOffset s at)
+    letter-e h = rw (cell-letter, eq-eqb (p + o) t all, lt-ltb d o h)
+
+    pub letter-m : getD s (at + ownerOffset) 0 ≤ getD s (at + dirtyOffset) 0 → M ≡ letterOf t (cellAtOffset s at)
+    letter-m h = rw (cell-letter, eq-eqb (p + o) t all, le-ltb d o h)
 
   module _ (few : getD s at 0 + getD s (at + ownerOffset) 0 ≡ t → ⊥) where
     pub letter-o : getD s (at + ownerOffset) 0 ≡ 1 → O ≡ letterOf t (cellAtOffset s at)

@@ -3,7 +3,7 @@ ghost use mathlib.Core.Path.{_≡_};
 ghost use Prim.Native.Nat.{_+_, _≤_, _<_};
 ghost use lib.ListN.{length, getD};
 ghost use Rattle.spec_rack.specs.Letter.{letterOf, letterReply};
-ghost use Rattle.spec_rack.specs.RecordLayout.{ownerOffset, validOffset, cellAtOffset, tokensIn};
+ghost use Rattle.spec_rack.specs.RecordLayout.{ownerOffset, dirtyOffset, cellAtOffset, tokensIn};
 use base::either;
 use base::wide_at;
 use record_soundness::sound;
@@ -11,6 +11,7 @@ use spec_rack::BLOCK_COUNT_OFFSET;
 use spec_rack::BLOCK_SIZE;
 use spec_rack::BLOCKS_OFFSET;
 use spec_rack::BOARD_COUNT_OFFSET;
+use spec_rack::DIRTY_OFFSET;
 use spec_rack::Letter;
 use spec_rack::Lettered;
 use spec_rack::OWNER_OFFSET;
@@ -20,11 +21,15 @@ use spec_wire::Refusal;
 
 // The letter of the component whose plain count is at `at`.
 fn letter_at(rec: &[u8], at: usize) -> Letter
-    requires { ⌜ (at + validOffset < length (now rec)) × (getD (now rec) (at + ownerOffset) 0 < 2) ⌝ }
+    requires { ⌜ (at + dirtyOffset < length (now rec)) × (getD (now rec) (at + ownerOffset) 0 < 2) × (getD (now rec) (at + dirtyOffset) 0 ≤ getD (now rec) (at + ownerOffset) 0) ⌝ }
     ensures { λ r. ⌜ r ≡ letterOf (tokensIn (now (rec .entry))) (cellAtOffset (now (rec .entry)) at) ⌝ }
 {
     let owner = wide_at(rec, at + OWNER_OFFSET);
     if wide_at(rec, at) + owner == wide_at(rec, TOKEN_COUNT_OFFSET) {
+        // A clean owner is there, and its mark is not.
+        if wide_at(rec, at + DIRTY_OFFSET) < owner {
+            return Letter::E;
+        }
         return Letter::M;
     }
     if owner == 1 {

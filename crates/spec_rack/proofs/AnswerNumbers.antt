@@ -13,7 +13,7 @@ use Rattle.spec_wire.proofs.AnswerNumbers.{packed-kind, packed-component, packe
 use Rattle.spec_rack.specs.declared.Answer.the-variants.{Done, Word, Served}
 use Rattle.spec_rack.specs.declared.Reply.{Reply}
 use Rattle.spec_rack.specs.declared.Reply.the-variants.{Accepted, Refused}
-use Rattle.spec_rack.specs.declared.Letter.the-variants.{M, O, S, I}
+use Rattle.spec_rack.specs.declared.Letter.the-variants.{M, O, E, S, I}
 use Rattle.spec_rack.specs.declared.Lettered.{Lettered}
 use Rattle.spec_rack.specs.declared.Lettered.the-variants as Lettered
 use Rattle.spec_rack.specs.Results.{word, served, packedReply, packedLetter}
@@ -43,6 +43,7 @@ reply-64 (Refused r) h = omega (arith, number-known r)
 pub letter-back : (l : Lettered) → unpackedLetter (packedLetter l) ≡ l
 letter-back (Lettered.Letter M) = refl
 letter-back (Lettered.Letter O) = refl
+letter-back (Lettered.Letter E) = refl
 letter-back (Lettered.Letter S) = refl
 letter-back (Lettered.Letter I) = refl
 letter-back (Lettered.Refused r) = ap (λ (k : ℕ). decodedLetter k (numberPart (refused r))) (refusal-kind r) ∙ ap Lettered.Refused (refusal-told r)
@@ -64,6 +65,7 @@ answer-numbers =
       served-0-0 = refl;
       letter-M = refl;
       letter-O = refl;
+      letter-E = refl;
       letter-S = refl;
       letter-I = refl;
     }

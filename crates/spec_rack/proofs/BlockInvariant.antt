@@ -215,15 +215,21 @@ module _ (r : Rack) (s : Sound r) (b c : ℕ) (inB : b < length (r .blocks)) (in
   with-cell-everywhere P Q h px qms =
       changed-everywhere r b block ms inB P Q (all-set (P b) (blockAt r b .cells) c x (h .cells b inB) px) (λ j l ne. h .cells j l) qms
 
-  -- home's cell of a block after the change: x where that is home's cell of this block, else as it was
-  pub home-after : (j : ℕ) (G : Cell → Type 0) → (j ≡ b → 0 ≡ c → G x) → ((j ≡ b → 0 ≡ c → ⊥) → G (cellAt r j 0)) → G (cellAt (withCell r b c x ms) j 0)
+  -- a cell after the change: x where it is the one that changed, else as it was
+  pub cell-after : (j k : ℕ) (G : Cell → Type 0) → (j ≡ b → k ≡ c → G x) → ((j ≡ b → k ≡ c → ⊥) → G (cellAt r j k)) → G (cellAt (withCell r b c x ms) j k)
   unfolding block
-  home-after j G new old =
-      at-set (λ y. G (getD (y .cells) 0 noCell)) (r .blocks) b j block noBlock inB
+  cell-after j k G new old =
+      at-set (λ y. G (getD (y .cells) k noCell)) (r .blocks) b j block noBlock inB
       (λ e.
-      at-set G (blockAt r b .cells) c 0 x noCell (cell-in r s b c inB inN) (new e)
-      (λ ne. subst (λ (k : ℕ). G (cellAt r k 0)) e (old (λ q. ne))))
+      at-set G (blockAt r b .cells) c k x noCell (cell-in r s b c inB inN) (new e)
+      (λ ne. subst (λ (i : ℕ). G (cellAt r i k)) e (old (λ q. ne))))
       (λ ne. old (λ e z. ne e))
+
+  pub home-after : (j : ℕ) (G : Cell → Type 0) → (j ≡ b → 0 ≡ c → G x) → ((j ≡ b → 0 ≡ c → ⊥) → G (cellAt r j 0)) → G (cellAt (withCell r b c x ms) j 0)
+  home-after j = cell-after j 0
+
+  pub cell-changed : cellAt (withCell r b c x ms) b c ≡ x
+  cell-changed = cell-after b c (λ y. y ≡ x) (λ _ _. refl) (λ ne. absurd (ne refl refl))
 
   -- so what holds of home's cell of every block stays, if the change keeps it in x where that is home's
   pub home-kept : (G : ℕ → Cell → Type 0) → (0 ≡ c → G b (cellAt r b c) → G b x)

@@ -22,9 +22,7 @@ use Rattle.spec_rack.specs.Rack.{Cell, Rack, noCell, noMessage, fresh, b
 use Rattle.spec_rack.specs.Soundness.{soundFields, sound, sizes}
 use Rattle.spec_rack.specs.Rules.{Outcome, accepted, settled, check, after, answer, rules, sent, withTokens, delivered, offRack, reply, rackAfter}
 use Rattle.spec_rack.specs.FlatMemory.{Memory, blank, memoryAfter}
-use Rattle.spec_rack.specs.RecordLayout.{get}
-use Rattle.spec_rack.specs.Opening.{openCheck, openReply, openAfter}
-use Rattle.spec_rack.specs.Lists.{ruledReply, ruledAfter, run, rackReplies, rackAccesses, runAll, repliesOf, stepsOf, after as bufferAfter, accesses}
+use Rattle.spec_rack.specs.Lists.{ruledReply, ruledAfter, run, rackReplies, rackAccesses, runAll, repliesOf, stepsOf}
 use Rattle.spec_rack.specs.CleanOwner.{replyBeforeBare, afterBeforeBare, rulesBeforeBare, BareSends, HomeReceives, CleanIn, in-component, in-flight, CleanHome, CleanHomeBytes, NeverDirtyAtHome, isBare, noneBare, AsBefore}
 use Rattle.spec_rack.proofs.SoundnessFacts.{Sound, sound-facts}
 use Rattle.spec_rack.proofs.OwnerMarks.{joined-home}
@@ -33,9 +31,7 @@ use Rattle.spec_rack.proofs.BlockInvariant.{all-anywhere, HomeHas, Clea
 use Rattle.spec_rack.proofs.StepPreservation.{inN, inB}
 use Rattle.spec_rack.proofs.FreshRack.{opened}
 use Rattle.spec_rack.proofs.ListCoherence.{run-fresh}
-use Rattle.spec_rack.proofs.SoundRecord.{live-of}
-use Rattle.spec_rack.proofs.OpeningLaws.{passes, sized, open-get, open-sound, open-bytes}
-use Rattle.spec_rack.proofs.ByteLists.{runs}
+use Rattle.spec_rack.proofs.Coherence.{from-opening}
 use Rattle.spec_rack.proofs.HomeLoads.{any-rack}
 
 -- a send's lines by their tests, where `bare` is that of 12 and `refusal` what it gives
@@ -204,16 +200,9 @@ clean-home n b t r ss e k l =
     subst (λ (q : Rack). CleanIn (run q ss) k → HomeHas (memoryAfter (blank b) (rackAccesses q ss)) (run q ss) k) (o .1) (clean-after n b t ss (o .0) k l)
 
 pub clean-home-bytes : CleanHomeBytes
-unfolding openReply
 clean-home-bytes n b t s steps bytes e k l u =
-    let pass = passes (openCheck n b t (length s)) e in
-    let is = open-get n b t s pass in
-    let first = openAfter n b t s in
-    let ss = stepsOf steps in
-    let ran = runs steps first (live-of first (open-bytes n b t s pass bytes) (open-sound n b t s pass bytes)) in
-    let rack : get (bufferAfter first steps) ≡ run (fresh n b t) ss = ran .rack ∙ ap (λ (r : Rack). run r ss) is in
-    let handed : accesses first steps ≡ rackAccesses (fresh n b t) ss = ran .accesses ∙ ap (λ (r : Rack). rackAccesses r ss) is in
-    rw (rack, handed) (clean-after n b t ss (sized n b t (length s) pass .range) k l (rw rack at u))
+    let ran = from-opening n b t s steps bytes e in
+    rw (ran .rack, ran .accesses) (clean-after n b t (stepsOf steps) (ran .fits) k l (rw (ran .rack) at u))
 
 pub never-dirty-at-home : NeverDirtyAtHome
 never-dirty-at-home n b t r ss e k =

@@ -68,6 +68,7 @@ first-match =
       board-3 = refl;
       load-5 = refl;
       letter-2 = refl;
+      letter-2-short = refl;
       letter-3 = refl;
       letter-4 = refl;
       step-1 = refl;
@@ -125,6 +126,7 @@ effects =
       mesh-63 = refl;
       mesh-63-send = refl;
       letter-one = refl;
+      letter-one-stored = refl;
     }
 
 pub flat-memory : FlatMemory

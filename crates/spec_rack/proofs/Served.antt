@@ -3,12 +3,10 @@
 use mathlib.Core.Path.{_≡_, refl, sym, ap, _∙_, subst}
 use mathlib.Core.Bool.{Bool, true, false}
 use mathlib.Core.List.{List, [], _∷_, map}
-use Prim.Native.Nat.{ℕ, _<_}
+use Prim.Native.Nat.{ℕ, _≤_, _<_}
 use borrow.Author.Tests.{leb-false}
-use lib.ListN.{length, getD, set}
-use lib.Seq.{getD-set-same}
+use lib.ListN.{length}
 use Rattle.spec_base.proofs.Tests.{differs}
-use Rattle.spec_base.proofs.Folds.{at-set}
 use Rattle.spec_wire.specs.declared.Refusal.the-variants.{NoMessage}
 use Rattle.spec_wire.specs.declared.Check.{Check}
 use Rattle.spec_wire.specs.declared.Check.the-variants.{Pass, Refuse}
@@ -17,11 +15,12 @@ use Rattle.spec_wire.specs.declared.Step.the-variants.{Load, Store, Send, Deliv
 use Rattle.spec_wire.specs.Refusals.{when_refuse_else_}
 use Rattle.spec_wire.specs.declared.Reading.the-variants.{Step as Read}
 use Rattle.spec_wire.specs.Reader.{readRecord}
+use Rattle.spec_base.specs.Folds.{removeAt}
 use Rattle.spec_rack.specs.declared.Answer.{Answer}
 use Rattle.spec_rack.specs.declared.Answer.the-variants.{Done, Word, Served}
 use Rattle.spec_rack.specs.declared.Reply.the-variants.{Accepted}
 use Rattle.spec_rack.specs.declared.Message.{Message}
-use Rattle.spec_rack.specs.Rack.{Cell, Block, Rack, noCell, noBlock, blockAt, claimsAt, cellAt, messageAt, held}
+use Rattle.spec_rack.specs.Rack.{Cell, Rack, cellAt, messageAt, held}
 use Rattle.spec_rack.specs.Rules.{withTokens, delivered, pastMesh, accepted, settled, check, answer, after, rules, reply, replyOf}
 use Rattle.spec_rack.specs.RecordLayout.{get}
 use Rattle.spec_rack.specs.Soundness.{soundBytes}
@@ -31,7 +30,7 @@ use Rattle.spec_rack.specs.Effects.{AcceptedAs}
 use Rattle.spec_rack.specs.Lists.{repliesOf, ruledAfter, rackReplies}
 use Rattle.spec_rack.specs.Served.{Serves, Names, SaysWhom, ServedBy, EveryServed, answerBefore, replyBefore, withoutServed, AsBefore}
 use Rattle.spec_rack.proofs.SoundnessFacts.{Sound, sound-facts}
-use Rattle.spec_rack.proofs.BlockInvariant.{message-sound, cell-in}
+use Rattle.spec_rack.proofs.BlockInvariant.{message-sound, cell-after, cell-changed}
 use Rattle.spec_rack.proofs.TokenConservation.{delivered-held}
 use Rattle.spec_rack.proofs.SoundRecord.{rack-sound}
 use Rattle.spec_rack.proofs.Effects.{every-step}
@@ -51,28 +50,19 @@ module _ (r : Rack) (s : Sound r) (i : ℕ) (h : i < length (r .mesh)) where
   abbrev x : Cell
   x = withTokens (cellAt r at to) m
 
-  abbrev block : Block
-  block = record { cells = set (blockAt r at .cells) to x; claims = claimsAt r at }
-
   inB : messageAt r i .header .block < length (r .blocks)
   inB = message-sound r s i h .block
 
-  inC : messageAt r i .header .target < length (blockAt r (messageAt r i .header .block) .cells)
-  inC = cell-in r s at to inB (message-sound r s i h .target)
+  inN : messageAt r i .header .target ≤ r .boards
+  inN = message-sound r s i h .target
 
   target-cell : cellAt (delivered r i) at to ≡ withTokens (cellAt r at to) m
   unfolding delivered
-  target-cell = ap (λ (k : Block). getD (k .cells) to noCell) (getD-set-same (r .blocks) at block noBlock inB) ∙ getD-set-same (blockAt r at .cells) to x noCell inC
+  target-cell = cell-changed r s at to inB inN x (removeAt (r .mesh) i)
 
   other-cells : (j k : ℕ) → ((j ≡ at) × (k ≡ to) → ⊥) → cellAt (delivered r i) j k ≡ cellAt r j k
   unfolding delivered
-  other-cells j k ne =
-      at-set (λ (y : Block). getD (y .cells) k noCell ≡ cellAt r j k) (r .blocks) at j block noBlock inB
-      (λ (e : j ≡ at).
-      at-set (λ (y : Cell). y ≡ cellAt r j k) (blockAt r at .cells) to k x noCell inC
-      (λ (f : k ≡ to). absurd (ne (e, f)))
-      (λ nf. ap (λ (a : ℕ). cellAt r a k) (sym e)))
-      (λ nb. refl)
+  other-cells j k ne = cell-after r s at to inB inN x (removeAt (r .mesh) i) j k (λ y. y ≡ cellAt r j k) (λ e f. absurd (ne (e, f))) (λ _. refl)
 
   serves : Serves r i (messageAt r i .header .target) (messageAt r i .header .block) (delivered r i)
   serves = record { gains = ap held target-cell ∙ delivered-held r s i h; some = message-sound r s i h .token; others = other-cells }

@@ -12,7 +12,7 @@ use Rattle.spec_rack.specs.declared.Answer.the-variants.{Done, Word, Ser
 use Rattle.spec_rack.specs.declared.Reply.{Reply}
 use Rattle.spec_rack.specs.declared.Reply.the-variants.{Accepted, Refused}
 use Rattle.spec_rack.specs.declared.Letter.{Letter}
-use Rattle.spec_rack.specs.declared.Letter.the-variants.{M, O, S, I}
+use Rattle.spec_rack.specs.declared.Letter.the-variants.{M, O, E, S, I}
 use Rattle.spec_rack.specs.declared.Lettered.{Lettered}
 use Rattle.spec_rack.specs.declared.Lettered.the-variants as Lettered
 use Rattle.spec_rack.specs.Results.{packedReply, packedLetter}
@@ -30,7 +30,7 @@ unpackedReply x = decodedReply (kindPart x) (componentPart x) (blockPart x) (num
 
 -- and of a letter's: kind 3 is a letter, by its ASCII code, else a refusal
 abbrev pub asciiLetter : ℕ → Letter
-asciiLetter n = cond (eqb n 77) M (cond (eqb n 79) O (cond (eqb n 83) S I))
+asciiLetter n = cond (eqb n 77) M (cond (eqb n 79) O (cond (eqb n 69) E (cond (eqb n 83) S I)))
 
 abbrev pub decodedLetter : ℕ → ℕ → Lettered
 decodedLetter kind n = cond (eqb kind 3) (Lettered.Letter (asciiLetter n)) (Lettered.Refused (numbered n))
@@ -64,5 +64,6 @@ pub record AnswerNumbers : Type 0 where
   -- the letters, by their ASCII codes
   pub letter-M : packedLetter (Lettered.Letter M) ≡ 0x0300_0000_0000_004D
   pub letter-O : packedLetter (Lettered.Letter O) ≡ 0x0300_0000_0000_004F
+  pub letter-E : packedLetter (Lettered.Letter E) ≡ 0x0300_0000_0000_0045
   pub letter-S : packedLetter (Lettered.Letter S) ≡ 0x0300_0000_0000_0053
   pub letter-I : packedLetter (Lettered.Letter I) ≡ 0x0300_0000_0000_0049

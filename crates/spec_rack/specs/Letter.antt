@@ -1,4 +1,4 @@
--- Document 01, "State letter": the letter of a board and a block; checks 2, 3, 4.
+-- Document 01, "State letter", with document 02, No. 4: the letter of a board and a block; checks 2, 3, 4.
 use Prim.Native.Nat.{ℕ}
 use mathlib.Core.Bool.{cond}
 use lib.Dec.{eqb}
@@ -7,9 +7,9 @@ use Rattle.spec_wire.specs.declared.Check.{Check}
 use Rattle.spec_wire.specs.declared.Check.the-variants.{Pass, Refuse}
 use Rattle.spec_wire.specs.Refusals.{when_refuse_else_}
 use Rattle.spec_rack.specs.declared.Letter.{Letter}
-use Rattle.spec_rack.specs.declared.Letter.the-variants.{M, O, S, I}
+use Rattle.spec_rack.specs.declared.Letter.the-variants.{M, O, E, S, I}
 use Rattle.spec_rack.specs.declared.Lettered.{Lettered}
-use Rattle.spec_rack.specs.Rack.{Cell, Rack, isHome, present, cellAt, held}
+use Rattle.spec_rack.specs.Rack.{Cell, Rack, isHome, present, clean, cellAt, held}
 use Rattle.spec_rack.specs.Rules.{offRack}
 use mathlib.Core.List.{List}
 use Rattle.spec_rack.specs.RecordLayout.{get}
@@ -22,9 +22,9 @@ letterCheck r c b =
     when isHome c refuse Home else
     Pass
 
--- M with T held; O with the owner and fewer; S with valid plain tokens only (valid says that some are held); otherwise I
+-- with T held E where the owner is clean, else M; O with the owner and fewer; S with valid plain tokens only (valid says that some are held); otherwise I
 abbrev pub letterOf : ℕ → Cell → Letter
-letterOf t x = cond (eqb (held x) t) M (cond (present (x .owner)) O (cond (x .valid) S I))
+letterOf t x = cond (eqb (held x) t) (cond (clean (x .owner)) E M) (cond (present (x .owner)) O (cond (x .valid) S I))
 
 abbrev pub lettered : Check → Letter → Lettered
 lettered Pass l = Lettered.Letter l

@@ -1,7 +1,7 @@
--- Document 01, "The rack", "Steps", "Refusal table" and "State letter", with document 02, Nos. 1, 2 and 7: sentences that the W lines leave out, each an
+-- Document 01, "The rack", "Steps", "Refusal table" and "State letter", with document 02, Nos. 1, 2, 4 and 7: sentences that the W lines leave out, each an
 -- equation on a small rack that is computed. They hold the definitions to the paper where a theorem about both definition and code could not tell a wrong
 -- reading.
-use Prim.Native.Nat.{ℕ}
+use Prim.Native.Nat.{ℕ, _-_}
 use mathlib.Core.Path.{_≡_}
 use mathlib.Core.Bool.{Bool, true, false, _||_}
 use mathlib.Core.List.{List, [], _∷_, _++_, map}
@@ -19,7 +19,7 @@ use Rattle.spec_rack.specs.declared.Owner.{Owner}
 use Rattle.spec_rack.specs.declared.Owner.the-variants.{Away, Dirty, Clean}
 use Rattle.spec_rack.specs.declared.Message.{Message}
 use Rattle.spec_rack.specs.declared.Reply.the-variants.{Refused}
-use Rattle.spec_rack.specs.declared.Letter.the-variants.{M, I}
+use Rattle.spec_rack.specs.declared.Letter.the-variants.{M, E, I}
 use Rattle.spec_rack.specs.declared.Lettered.the-variants as Lettered
 use Rattle.spec_rack.specs.Rack.{Cell, Rack, zeros, noCell, fresh, cellAt, claimsAt}
 use Rattle.spec_rack.specs.Soundness.{sound}
@@ -121,6 +121,8 @@ pub record FirstMatch : Type 0 where
   pub load-5 : met full (Load 1 0 0 ∷ Load 1 1 0 ∷ []) ≡ 5 ∷ 6 ∷ []
   -- letter: 2, 3, 4
   pub letter-2 : letterReply [] 0 33 ≡ Lettered.Refused Unsound
+  -- a buffer of one byte too few for its blocks, asked for a component off the rack
+  pub letter-2-short : letterReply (2 ∷ 1 ∷ 3 ∷ 0 ∷ replicate (recordLength 1 - 5) 0) 3 0 ≡ Lettered.Refused Unsound
   pub letter-3 : letter (fresh 2 2 3) 0 2 ≡ Lettered.Refused OffRack
   pub letter-4 : letter (fresh 2 2 3) 0 1 ≡ Lettered.Refused Home
   -- a step: 1, 2, 3, with a buffer that is too short for a record
@@ -233,8 +235,9 @@ pub record Effects : Type 0 where
   -- 64 messages are the most: with 63 in flight a send and a forward are accepted, with 64 neither
   pub mesh-63 : met (run claimedFull (Deliver 0 ∷ [])) (Forward 0 1 ∷ []) ≡ 0 ∷ []
   pub mesh-63-send : met (run full (Deliver 63 ∷ [])) (Send 0 1 1 1 false false ∷ []) ≡ 0 ∷ []
-  -- the letter M where T = 1 and a board holds the owner
-  pub letter-one : letter (run (fresh 1 1 1) (Send 0 0 1 0 true true ∷ Deliver 0 ∷ [])) 1 0 ≡ Lettered.Letter M
+  -- where T = 1 a board that holds the owner holds all: E, and M once it has stored
+  pub letter-one : letter (run (fresh 1 1 1) (Send 0 0 1 0 true true ∷ Deliver 0 ∷ [])) 1 0 ≡ Lettered.Letter E
+  pub letter-one-stored : letter (run (fresh 1 1 1) (Send 0 0 1 0 true true ∷ Deliver 0 ∷ Store 1 0 0 7 ∷ [])) 1 0 ≡ Lettered.Letter M
 
 -- ---- the flat memory
 

@@ -9,7 +9,7 @@ use Rattle.spec_rack.specs.declared.Answer.the-variants.{Done, Word, Ser
 use Rattle.spec_rack.specs.declared.Reply.{Reply}
 use Rattle.spec_rack.specs.declared.Reply.the-variants.{Accepted, Refused}
 use Rattle.spec_rack.specs.declared.Letter.{Letter}
-use Rattle.spec_rack.specs.declared.Letter.the-variants.{M, O, S, I}
+use Rattle.spec_rack.specs.declared.Letter.the-variants.{M, O, E, S, I}
 use Rattle.spec_rack.specs.declared.Lettered.{Lettered}
 use Rattle.spec_rack.specs.declared.Lettered.the-variants as Lettered
 
@@ -21,6 +21,7 @@ word w = packed 2 0 0 w
 abbrev pub letterNumber : Letter → ℕ
 letterNumber M = packed 3 0 0 77
 letterNumber O = packed 3 0 0 79
+letterNumber E = packed 3 0 0 69
 letterNumber S = packed 3 0 0 83
 letterNumber I = packed 3 0 0 73
 

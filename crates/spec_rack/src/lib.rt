@@ -19,6 +19,7 @@ pub enum Reply {
 pub enum Letter {
     M,
     O,
+    E,
     S,
     I,
 }

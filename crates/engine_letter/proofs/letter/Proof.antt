@@ -8,7 +8,7 @@ use borrow.Author.Needs.{needs}
 use borrow.Author.Tests.{not-true, not-false}
 use Rattle.spec_rack.specs.Soundness.{soundBytes}
 use Rattle.engine_letter.proofs.LetterCell.{Whole, whole}
-use Rattle.engine_letter.proofs.LetterLaws.{letter-unsound, letter-off-rack, on-rack, letter-home, letter-mark, letter-read}
+use Rattle.engine_letter.proofs.LetterLaws.{letter-unsound, letter-off-rack, on-rack, letter-home, letter-mark, letter-dirty, letter-read}
 use Rattle.engine_letter.proofs.letter.Statement.{statement}
 use Rattle.engine_letter.proofs.letter.Tie as tie
 use Rattle.engine_letter.proofs.letter.Reads as reads
@@ -80,6 +80,7 @@ letter-at-requires c κs =
     let within = on-rack (s .args .rec .now) (s .args .component) (s .args .block) (sure (c .before .before .before .before .before)) (on (c .before)) in (
       omega arith,
       letter-mark (s .args .rec .now) (s .args .component) (s .args .block) (sure (c .before .before .before .before .before)) (on (c .before)) (sized .wellFormed .bytes),
+      letter-dirty (s .args .rec .now) (s .args .component) (s .args .block) (sure (c .before .before .before .before .before)) (on (c .before)) (sized .wellFormed .bytes),
     )
 
 returns-4 : tie.Need-returns-4
