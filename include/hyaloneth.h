@@ -34,11 +34,12 @@ extern "C" {
 
 /* Kinds of answer besides HYL_DONE and HYL_REFUSED. */
 #define HYL_WORD_GIVEN 2u   /* a load: the word */
-#define HYL_LETTER_GIVEN 3u /* a state letter: its ASCII code */
+#define HYL_LETTER_GIVEN 3u /* a state letter: its ASCII code; hyl_letter has the five letters */
 #define HYL_SERVED 4u       /* a deliver: the target and the block of its message */
 
-/* The word of an answered load, the letter of a state letter, the component and the block that a deliver served; 0 where the result has none. Home
- * and the first block are 0 too, so ask for HYL_SERVED first. The names in capitals stand for the functions: a deliver as the argument is made once. */
+/* The word of an answered load, the letter of a state letter ('M', 'O', 'E', 'S' or 'I'), the component and the block that a deliver served; 0 where
+ * the result has none. Home and the first block are 0 too, so ask for HYL_SERVED first. The names in capitals stand for the functions: a deliver as
+ * the argument is made once. */
 static inline uint32_t hyl_word_of(uint64_t result)
 {
     return hyl_kind(result) == HYL_WORD_GIVEN ? (uint32_t)result : 0;
@@ -124,7 +125,19 @@ uint64_t hyl_step(uint8_t *rec, size_t rec_len, const uint8_t *step, size_t step
  * Gives the number of steps made. */
 size_t hyl_run(uint8_t *rec, size_t rec_len, const uint8_t *list, size_t list_len, size_t *at, uint64_t *replies, size_t replies_len);
 
-/* The state letter of a board and a block: 'M', 'O', 'S' or 'I' (HYL_LETTER_OF). Refused with HYL_UNSOUND, HYL_OFF_RACK or HYL_HOME, in that order.
+/* The state letter of a board and a block (HYL_LETTER_OF), by what the board holds of the block's T tokens:
+ *   'M'  modified: all T, and the owner is dirty
+ *   'O'  owned: the owner, clean or dirty, and fewer than T
+ *   'E'  exclusive: all T, and the owner is clean; there is no other copy, and home has the words, as said above of clean owners
+ *   'S'  shared: plain tokens only, and its words are valid
+ *   'I'  invalid: anything else; that is no token, or plain tokens only without valid words
+ *
+ * A `switch` over the letter needs a case for each of the five. A board may store where it shows 'M' or 'E', so a caller that takes 'M' alone for "may
+ * store" misses boards that have all tokens. A store makes 'E' 'M', also a store of the value that was there already. A board that shows 'E' may give
+ * the block home bare: a send of all that it holds with owner 1, data 0 and target 0. Where it shows 'M', HYL_BARE_OWNER refuses that. 'O' does not say
+ * which mark the owner has: hyl_view_dirty of hyaloneth_view.h does.
+ *
+ * Refused with HYL_UNSOUND, HYL_OFF_RACK or HYL_HOME, in that order.
  *   rec, rec_len  the buffer that holds the record
  *   component     the board, 1 to N
  *   block         the block, below B */

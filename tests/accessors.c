@@ -39,6 +39,14 @@ int main(void)
         {UINT64_C(0x040F001F00000000), 15, 31},
         {UINT64_C(0x0400000000000000), 0, 0},
     };
+    /* State letters as the engine packs them. */
+    static const struct {
+        uint64_t packed;
+        char letter;
+    } lettered[] = {
+        {UINT64_C(0x030000000000004D), 'M'}, {UINT64_C(0x030000000000004F), 'O'}, {UINT64_C(0x0300000000000045), 'E'},
+        {UINT64_C(0x0300000000000053), 'S'}, {UINT64_C(0x0300000000000049), 'I'},
+    };
     unsigned k, i;
 
     for (k = 0; k < sizeof kinds / sizeof *kinds; k++)
@@ -60,6 +68,11 @@ int main(void)
         expect("HYL_KIND", HYL_KIND(next()), HYL_SERVED);
         expect("HYL_COMPONENT_OF", HYL_COMPONENT_OF(next()), served[i].component);
         expect("HYL_BLOCK_OF", HYL_BLOCK_OF(next()), served[i].block);
+    }
+    for (i = 0; i < sizeof lettered / sizeof *lettered; i++) {
+        result = lettered[i].packed;
+        expect("HYL_KIND", HYL_KIND(next()), HYL_LETTER_GIVEN);
+        expect("HYL_LETTER_OF", (unsigned char)HYL_LETTER_OF(next()), (unsigned char)lettered[i].letter);
     }
     return failures != 0;
 }

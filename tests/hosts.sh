@@ -1,7 +1,7 @@
 #!/bin/sh
-# Builds the host programs over the proved archives with warnings as errors, and runs them: the Rust package's tests, the headers, the views of a
-# record in C and Rust, both policies in Rust and C (C also with sanitizers), and the traces against their stored outputs. Needs gcc and cargo, and
-# in target/staticlib what `rt staticlib engine` and `rt staticlib wire` build. With g++ the headers are tried in C++ too.
+# Builds the host programs over the proved archives with warnings as errors, and runs them: the Rust package's tests, the headers, state letters in C,
+# the views of a record in C and Rust, both policies in Rust and C (C also with sanitizers), and the traces against their stored outputs. Needs gcc and
+# cargo, and in target/staticlib what `rt staticlib engine` and `rt staticlib wire` build. With g++ the headers and letters are tried in C++ too.
 set -eu
 cd "$(dirname "$0")/.."
 
@@ -56,13 +56,22 @@ try_headers()
     "$@" $warnings -Iinclude tests/accessors.c -o "$out/accessors"
     "$out/accessors"
 }
+# The state letter, as the engine packs it.
+try_letters()
+{
+    "$@" $warnings -Iinclude tests/letters.c -x none $archives -o "$out/letters"
+    quietly letters "$out/letters"
+}
 try_headers gcc -std=c99 -x c
+try_letters gcc -std=c99 -O2 -x c
+try_letters gcc -std=c99 $sanitized -x c
 languages=C
 if command -v g++ >/dev/null; then
     try_headers g++ -std=c++11 -x c++
+    try_letters g++ -std=c++11 -x c++
     languages="C and C++"
 fi
-echo "hosts: the headers in $languages; each accessor evaluates its argument once"
+echo "hosts: the headers in $languages; each accessor evaluates its argument once; $(cat "$out/letters.log")"
 
 # The view in C beside the rules of document 01, then the view in Rust beside that in C.
 gcc $flags -O2 tests/view_compare.c $archives -o "$out/view"
@@ -99,6 +108,11 @@ for seed in 1 2 3; do
     # A policy that never sends a clean owner home bare would leave that untried.
     if grep "(0 bare)" "$out/policy_rust_$seed.log"; then
         echo "failed: a policy made no bare send"
+        exit 1
+    fi
+    # Nor would one whose display never shows E try what follows from it.
+    if grep " 0 E," "$out/policy_rust_$seed.log"; then
+        echo "failed: no board showed E"
         exit 1
     fi
 done

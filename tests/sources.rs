@@ -8,8 +8,8 @@ use std::fs;
 use std::path::{Path, PathBuf};
 
 /// The crates all of whose public functions in `lib.rt` are entries; of the others, and of their modules, those that docs/ENTRIES.md names.
-const ENTRY_CRATES: [&str; 8] =
-    ["wire_reader", "wire_writer", "wire", "record_open", "record_soundness", "engine_letter", "engine", "rackrun_text"];
+const ENTRY_CRATES: [&str; 9] =
+    ["wire_reader", "wire_writer", "wire", "record_open", "record_soundness", "engine_letter", "engine_results", "engine", "rackrun_text"];
 
 /// Numbers of the record's layout that have no other meaning: they stand in the definitions alone.
 const LAYOUT_NUMBERS: [&str; 3] = ["2592", "632", "22816"];

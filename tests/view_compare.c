@@ -1,8 +1,9 @@
 /* Compares the view of include/hyaloneth_view.h with a second account of the rack: plain arrays that change by document 01's rules at each step that
  * the engine accepts, and know no bytes. Every figure is compared after every accepted step, so that a wrong offset is found; so are whom a deliver
- * served, what a load gives, at home too, and what a send of the owner without data gives. Exits with 1 at the first difference.
+ * served, what a load gives, at home too, what a send of the owner without data gives, and the letters of the step's block. Exits with 1 at the first
+ * difference.
  *
- * Argument, if any: a file. Some of the records go there, one after the other, and their figures to the standard output, in the form that
+ * Argument, if any: a file. Some of the records go there, one after the other, and their figures and letters to the standard output, in the form that
  * hosts/rust/examples/figures.rs prints them in. */
 #include <inttypes.h>
 #include <stdio.h>
@@ -54,6 +55,9 @@ static unsigned long accepted, kinds[8], figures, fullest;
 static unsigned long home_loads[HYL_NO_DATA + 1], home_words;
 /* Sends of the owner without data, by the owner's mark and by whether the target is a board. Only those of a clean owner to home are accepted. */
 static unsigned long bare_sends[2][2];
+/* How often each letter was shown, in the order of LETTERS. */
+#define LETTERS "MOESI"
+static unsigned long letters[sizeof LETTERS - 1];
 
 static uint32_t active(uint32_t block)
 {
@@ -197,6 +201,32 @@ static void compare(void)
     }
 }
 
+/* The letter of a board by document 01's rule and document 02's No. 4. */
+static char letter_of(const struct cell *cell)
+{
+    if (cell->plain + cell->owner == rack.tokens)
+        return cell->dirty ? 'M' : 'E';
+    if (cell->owner)
+        return 'O';
+    return cell->valid ? 'S' : 'I';
+}
+
+/* Every board's letter of a block is the rack's. Home has none. */
+static void compare_letters(uint32_t block)
+{
+    uint32_t c;
+
+    same("the refusal of a letter at home", HYL_REFUSAL(hyl_letter(rec, rec_len, 0, block)), HYL_HOME);
+    for (c = 1; c <= rack.boards; c++) {
+        uint64_t result = hyl_letter(rec, rec_len, c, block);
+        char letter = letter_of(&rack.cell[block][c]);
+
+        same("the kind of a letter", HYL_KIND(result), HYL_LETTER_GIVEN);
+        same("a letter", (unsigned char)HYL_LETTER_OF(result), (unsigned char)letter);
+        letters[strchr(LETTERS, letter) - LETTERS]++;
+    }
+}
+
 /* Writes the record to the file, and prints its figures by the view. */
 static void write_record(void)
 {
@@ -224,7 +254,7 @@ static void write_record(void)
             for (w = 0; w < 8; w++)
                 printf(" %08" PRIx32, hyl_view_word(rec, c, block, w));
             if (c > 0)
-                printf(" %04" PRIx32, hyl_view_barring(rec, c, block));
+                printf(" %04" PRIx32 " %c", hyl_view_barring(rec, c, block), HYL_LETTER_OF(hyl_letter(rec, rec_len, c, block)));
             printf("\n");
         }
     }
@@ -261,12 +291,15 @@ static uint64_t step(uint32_t kind, uint32_t component, uint32_t block, uint32_t
     same("the kind of a result", HYL_KIND(result), answer(kind));
     same("the component that a deliver served", HYL_COMPONENT_OF(result), kind == HYL_DELIVER ? rack.mesh[position].target : 0);
     same("the block that a deliver served", HYL_BLOCK_OF(result), kind == HYL_DELIVER ? rack.mesh[position].block : 0);
+    if (kind == HYL_DELIVER)
+        block = rack.mesh[position].block;
     apply(n);
     accepted++;
     kinds[kind - HYL_LOAD]++;
     if (rack.in_flight > fullest)
         fullest = rack.in_flight;
     compare();
+    compare_letters(block);
     if (records && accepted % WRITTEN == 0)
         write_record();
     return result;
@@ -459,9 +492,14 @@ int main(int argc, char **argv)
                bare_sends[0][1], bare_sends[1][0], bare_sends[1][1]);
         return 1;
     }
+    for (i = 0; i < sizeof LETTERS - 1; i++)
+        if (!letters[i]) {
+            printf("view: no board showed %c\n", LETTERS[i]);
+            return 1;
+        }
     if (!records)
         printf("%lu figures of the view and of results in C, over %lu accepted steps, %lu of them loads at home and %lu bare sends, are as the rules "
-               "have them\n",
-               figures, accepted, home_loads[0], bare_sends[0][0]);
+               "have them; letters: %lu M, %lu O, %lu E, %lu S, %lu I\n",
+               figures, accepted, home_loads[0], bare_sends[0][0], letters[0], letters[1], letters[2], letters[3], letters[4]);
     return 0;
 }

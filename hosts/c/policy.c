@@ -1,5 +1,6 @@
 /* Two policies over the engine, each with a flat memory beside it that every answered load must agree with: one that takes turns and works, and a
- * foolish one. hosts/rust/examples/policy.rs is the same program in Rust and prints the same lines for the same seed. */
+ * foolish one. A display looks at the state letters of both. hosts/rust/examples/policy.rs is the same program in Rust and prints the same lines for
+ * the same seed. */
 #include <errno.h>
 #include <inttypes.h>
 #include <stdbool.h>
@@ -114,6 +115,45 @@ static void take(const uint8_t *step, size_t step_len, uint64_t result)
     }
 }
 
+/* How often the display has shown each letter. */
+static struct {
+    unsigned modified, owned, exclusive, shared, invalid;
+} shown;
+
+/* The display looks at a block. Where a board shows E, there is no other copy and home has the words: those that the flat memory has. */
+static void show(uint32_t block)
+{
+    uint32_t board, word;
+
+    for (board = 1; board <= hyl_view_boards(rec); board++)
+        switch (HYL_LETTER_OF(hyl_letter(rec, rec_len, board, block))) {
+        case 'M':
+            shown.modified++;
+            break;
+        case 'O':
+            shown.owned++;
+            break;
+        case 'E':
+            shown.exclusive++;
+            for (word = 0; word < 8; word++)
+                if (hyl_view_word(rec, HOME, block, word) != memory.words[block][word]) {
+                    memory.wrong++;
+                    printf("WRONG: board %" PRIu32 " shows E of block %" PRIu32 ", and home has another word %" PRIu32 "\n", board, block, word);
+                }
+            break;
+        case 'S':
+            shown.shared++;
+            break;
+        case 'I':
+            shown.invalid++;
+            break;
+        default:
+            memory.wrong++;
+            printf("WRONG: board %" PRIu32 " shows no letter of block %" PRIu32 "\n", board, block);
+            break;
+        }
+}
+
 /* The policy that takes turns: its steps, and its raises refused because the board waits already, or because it is barred. */
 static unsigned steps, waiting, barred;
 
@@ -220,6 +260,7 @@ static void claim_turn(uint32_t block)
         raise_claim(1 + draw(boards), block);
     while ((board = hyl_view_active(rec, block)) != 0) {
         fill(board, block);
+        show(block);
         stores = draw(4);
         for (times = stores; times > 0; times--) {
             word = draw(8);
@@ -284,6 +325,7 @@ static unsigned take_turns(uint64_t seed, uint32_t boards, uint32_t blocks, uint
     if (!open_rack(boards, blocks, tokens))
         return 1;
     memset(&memory, 0, sizeof memory);
+    memset(&shown, 0, sizeof shown);
     steps = waiting = barred = 0;
     seed_dice(seed);
     for (round = 0; round < ROUNDS; round++) {
@@ -299,11 +341,14 @@ static unsigned take_turns(uint64_t seed, uint32_t boards, uint32_t blocks, uint
             read_turn(HOME, block);
             break;
         }
+        show(block);
     }
     close_rack();
     printf("turns: boards %" PRIu32 ", blocks %" PRIu32 ", tokens %" PRIu32
-           ": %u steps, %u stores, %u loads (%u at home), %u sends (%u bare); raises refused: %u waiting, %u barred\n",
-           boards, blocks, tokens, steps, memory.stores, memory.loads, memory.home_loads, memory.sends, memory.bare_sends, waiting, barred);
+           ": %u steps, %u stores, %u loads (%u at home), %u sends (%u bare); letters: %u M, %u O, %u E, %u S, %u I; raises refused: %u waiting, "
+           "%u barred\n",
+           boards, blocks, tokens, steps, memory.stores, memory.loads, memory.home_loads, memory.sends, memory.bare_sends, shown.modified, shown.owned,
+           shown.exclusive, shown.shared, shown.invalid, waiting, barred);
     return memory.wrong;
 }
 
@@ -417,8 +462,10 @@ static unsigned be_foolish(uint64_t seed)
     static uint8_t list[LIST_STEPS * STEP_ROOM];
     unsigned refused[21] = {0};
     unsigned accepted = 0, loads = 0, home_loads = 0, stores = 0, sends = 0, bare_sends = 0, wrong = 0, number;
+    uint32_t block;
     int rack, lists, i;
 
+    memset(&shown, 0, sizeof shown);
     seed_dice(seed);
     for (rack = 0; rack < FOOLISH_RACKS; rack++) {
         /* A lazy rack delivers little and claims nothing, so that its mesh becomes full. */
@@ -453,6 +500,8 @@ static unsigned be_foolish(uint64_t seed)
                     cut += n;
                 }
             }
+            for (block = 0; block < blocks; block++)
+                show(block);
         }
         wrong += memory.wrong + wrong_totals();
         loads += memory.loads;
@@ -462,8 +511,10 @@ static unsigned be_foolish(uint64_t seed)
         bare_sends += memory.bare_sends;
         close_rack();
     }
-    printf("foolish: %d racks: %u steps accepted, of them %u stores, %u loads (%u at home), %u sends (%u bare); refused:\n", FOOLISH_RACKS, accepted,
-           stores, loads, home_loads, sends, bare_sends);
+    printf("foolish: %d racks: %u steps accepted, of them %u stores, %u loads (%u at home), %u sends (%u bare); letters: %u M, %u O, %u E, %u S, %u I; "
+           "refused:\n",
+           FOOLISH_RACKS, accepted, stores, loads, home_loads, sends, bare_sends, shown.modified, shown.owned, shown.exclusive, shown.shared,
+           shown.invalid);
     for (number = 1; number <= 20; number++)
         if (refused[number] > 0)
             printf("  %2u %-12s %u\n", number, word[number], refused[number]);

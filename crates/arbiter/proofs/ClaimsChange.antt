@@ -12,8 +12,8 @@ use Rattle.spec_base.specs.Layout.{slice, modifyAt, big}
 use Rattle.spec_base.proofs.Parts.{bytes-take, bytes-drop, length-part, part-part}
 use Rattle.spec_base.proofs.Laws.{Stands, Lawful, cut, cut-second, cuts-length, written}
 use Rattle.spec_base.proofs.Places.{over-in}
-use Rattle.spec_rack.specs.Boards.{boardRoom, empty, insert, remove}
-use Rattle.spec_rack.specs.Claims.{Claims, waiting, barring, raised, lowered}
+use Rattle.spec_arbiter.specs.Boards.{boardRoom, empty, insert, remove}
+use Rattle.spec_arbiter.specs.Claims.{Claims, waiting, barring, raised, lowered}
 use Rattle.spec_rack.specs.RecordLayout.{claims, setOffset, claimsAtOffset, putClaims, claimsSize, waitingOffset}
 use Rattle.spec_base.proofs.Maps.{mapFirst, mapFirst-none, mapFirst-more, mapFirst-all}
 use Rattle.spec_rack.proofs.LayoutParts.{ClaimsFit, claims-size, claims-lawful}

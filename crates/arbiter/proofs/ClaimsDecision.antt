@@ -13,10 +13,10 @@ use Rattle.spec_base.specs.Folds.{allBelow, implies}
 use Rattle.spec_base.specs.Layout.{slice}
 use Rattle.spec_base.proofs.Tests.{same-test, and-l, and-r, and-of, and-left, and-right, and-true, implies-of}
 use Rattle.spec_base.proofs.Folds.{below-at, below-of, below-fails}
-use Rattle.spec_rack.specs.Boards.{boardRoom, member, empty, subset, boardsOnly}
-use Rattle.spec_rack.specs.Claims.{Claims, waiting, barring, soundBarring, soundClaims}
+use Rattle.spec_arbiter.specs.Boards.{boardRoom, member, empty, subset, boardsOnly}
+use Rattle.spec_arbiter.specs.Claims.{Claims, waiting, barring, soundBarring, soundClaims}
 use Rattle.spec_rack.specs.RecordLayout.{claims, claimsAtOffset, claimsSize, waitingOffset}
-use Rattle.spec_rack.proofs.Boards.{subset-empty, boards-empty, boards-subset}
+use Rattle.spec_arbiter.proofs.Boards.{subset-empty, boards-empty, boards-subset}
 use Rattle.arbiter.proofs.SetBytes.{length-claims, barring-is, claims-formed}
 use Rattle.spec_base.proofs.WordBytes.{read-two}
 

@@ -13,8 +13,8 @@ use lib.Count.{ones, ones-cat, trailingZeros, under}
 use lib.Pow.{pow-pos, pow-add, pow-mono, shl-exact, shr-shr, mod-pow-add}
 use Rattle.spec_base.specs.Folds.{toℕ, countBelow}
 use Rattle.spec_base.proofs.Tests.{either, differs, same-test}
-use Rattle.spec_rack.specs.Boards.{boardRoom, bit, member, insert, remove, subset, boardsOnly, firstFrom, lowest, size}
-use Rattle.spec_rack.proofs.Boards.{bit-lt, bit-member, bit-in, bit-out, bit-zero, bit-suc, bit-le, in-of-bit, out-of-bit, insert-in, insert-out, remove-in, remove-out, bits-ext, subset-at, subset-of, boards-at, boards-subset, boards-from}
+use Rattle.spec_arbiter.specs.Boards.{boardRoom, bit, member, insert, remove, subset, boardsOnly, firstFrom, lowest, size}
+use Rattle.spec_arbiter.proofs.Boards.{bit-lt, bit-member, bit-in, bit-out, bit-zero, bit-suc, bit-le, in-of-bit, out-of-bit, insert-in, insert-out, remove-in, remove-out, bits-ext, subset-at, subset-of, boards-at, boards-subset, boards-from}
 
 -- `1 << i`
 pub shl-one : (i : ℕ) → i < boardRoom → (1 * 2 ^ i) % 2 ^ boardRoom ≡ 2 ^ i

@@ -20,8 +20,8 @@ use Rattle.spec_base.proofs.Places.{Place, within, first, second, item, formed-
 use Rattle.spec_base.proofs.Forms.{formed-pair}
 use Rattle.spec_base.proofs.Padded.{zeroed-lawful, padded-place, zeros-formed, formed-zeroed}
 use Rattle.spec_base.proofs.Lanes.{place-iso}
-use Rattle.spec_rack.specs.Boards.{boardRoom, empty}
-use Rattle.spec_rack.specs.Claims.{waiting, barring}
+use Rattle.spec_arbiter.specs.Boards.{boardRoom, empty}
+use Rattle.spec_arbiter.specs.Claims.{waiting, barring}
 use Rattle.spec_rack.specs.RecordLayout.{barringSets, toClaims, fromClaims, claims, setOffset, claimsAtOffset, claimsSize, waitingOffset}
 use Rattle.spec_rack.proofs.LayoutParts.{claims-size, sets-lawful}
 

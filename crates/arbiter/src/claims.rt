@@ -3,7 +3,7 @@
 ghost use mathlib.Core.Path.{_≡_};
 ghost use Prim.Native.Nat.{ℕ, _+_, _≤_, _<_};
 ghost use lib.ListN.{length};
-ghost use Rattle.spec_rack.specs.Claims.{waiting, active, raiseCheck, lowerCheck};
+ghost use Rattle.spec_arbiter.specs.Claims.{waiting, active, raiseCheck, lowerCheck};
 ghost use Rattle.spec_rack.specs.RecordLayout.{claimsAtOffset, claimsSize};
 use super::sets;
 use base::numbers::u16_at;

@@ -14,7 +14,7 @@ use Rattle.spec_base.proofs.Parts.{bytes-take, over-over, length-part, part-par
 use Rattle.spec_base.proofs.Laws.{Stands, StandItems}
 use Rattle.spec_base.proofs.Places.{Place, within, item, over-in}
 use Rattle.spec_base.proofs.Copies.{items-more, items-removed}
-use Rattle.spec_rack.specs.Claims.{Claims}
+use Rattle.spec_arbiter.specs.Claims.{Claims}
 use Rattle.spec_rack.specs.RecordLayout.{claims, blockOffset, cellWordsOffset, claimsOffset, wordsOffset, wordsSize, Tokens, fromTokens, lanesAt, setLanes, words, toCell, cellTokens, message, block, header, rackLayout, layoutOf, get, put, blockSize, blocksIn, boardsIn, claimsSize, meshSize, messageCountOffset, messageOffset, messageSize, messagesIn, tokensIn, headerSize, meshRoom}
 use Rattle.spec_rack.specs.declared.Message.{Message}
 use Rattle.spec_rack.specs.Rack.{Cell, Block, Rack, noCell, noBlock, noMessage, blockAt, cellAt, claimsAt, messageAt}

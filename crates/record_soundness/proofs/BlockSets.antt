@@ -10,8 +10,8 @@ use lib.Pow.{pow-pos, shl-exact}
 use Rattle.spec_base.specs.Folds.{toℕ, allBelow, implies}
 use Rattle.spec_base.proofs.Tests.{either, differs, same-or-not, same-test, and-r, and-of, implied, implies-of}
 use Rattle.spec_base.proofs.Folds.{below-at, below-of, below-fails}
-use Rattle.spec_rack.specs.Boards.{member, insert, remove}
-use Rattle.spec_rack.proofs.Boards.{bit-zero, bit-suc, bit-in, bit-le, in-of-bit, member-empty, insert-same, insert-other, remove-in, remove-other, remove-was}
+use Rattle.spec_arbiter.specs.Boards.{member, insert, remove}
+use Rattle.spec_arbiter.proofs.Boards.{bit-zero, bit-suc, bit-in, bit-le, in-of-bit, member-empty, insert-same, insert-other, remove-in, remove-other, remove-was}
 use Rattle.arbiter.proofs.SetBits.{or-insert}
 
 -- ---- the machine's operations

@@ -13,7 +13,7 @@ use Rattle.spec_base.specs.Number.{Bytes}
 use Rattle.spec_base.specs.Layout.{slice}
 use Rattle.spec_base.proofs.Tests.{and-l, and-r, and-of, and-left, and-right, and-known, same-test, one-lt, eqb-one, cond-of}
 use Rattle.spec_base.proofs.Folds.{below-of, below-at, below-same, at-set, every-below, sum-next, sum-most, sum-below, sum-short, sum-scaled}
-use Rattle.spec_rack.specs.Claims.{soundClaims}
+use Rattle.spec_arbiter.specs.Claims.{soundClaims}
 use Rattle.spec_rack.specs.RecordLayout.{claims, claimsAtOffset as claimsBytes, messageOffset, blockOffset, ownerOffset, validOffset, dirtyOffset, claimsOffset, wordsOffset, wordsSize, Tokens, ownerOf, toTokens, words, toCell, message, tokenLanes, block, recordLength, layoutOf, get, blockSize, blocksIn, boardsIn, claimsSize, lanesSize, messageSize, messagesIn, tokensIn, targetOffset, messageBlockOffset, messagePlainOffset, messageOwnerOffset, dataOffset, messageDirtyOffset, messageWordsOffset, laneSize}
 use Rattle.spec_rack.specs.declared.Owner.{Owner}
 use Rattle.spec_rack.specs.declared.Message.{Message}

@@ -6,7 +6,7 @@ use lib.ListN.{getD}
 use lib.Dec.{eqb}
 use Rattle.spec_base.specs.Folds.{sumBelow}
 use Rattle.spec_base.specs.Layout.{slice}
-use Rattle.spec_rack.specs.Claims.{soundClaims}
+use Rattle.spec_arbiter.specs.Claims.{soundClaims}
 use Rattle.spec_rack.specs.RecordLayout.{claims, claimsAtOffset, ownerOffset, claimsOffset, messageOffset, claimsSize, messageBlockOffset, messagePlainOffset}
 use Rattle.record_lanes.specs.Lanes.{soundLanes, unusedLanesEmpty, laneSum}
 use Rattle.record_message.specs.Messages.{tokenSumAt}

@@ -2,7 +2,7 @@
 ghost use mathlib.Core.Path.{_≡_};
 ghost use mathlib.Core.Bool.{true, cond};
 ghost use Prim.Native.Nat.{_<_};
-ghost use Rattle.spec_rack.specs.Boards.{member, insert, remove};
+ghost use Rattle.spec_arbiter.specs.Boards.{member, insert, remove};
 
 // The set with the block where a test holds, and as it is where it does not.
 pub fn insert_if(blocks: u32, b: usize, test: bool) -> u32

@@ -7,7 +7,7 @@ ghost use mathlib.Core.Bool.{true, _&&_};
 ghost use Prim.Native.Nat.{ℕ, _+_, _*_, _≤_, _<_};
 ghost use lib.ListN.{length, getD, replicate};
 ghost use Rattle.spec_base.specs.Folds.{allBelow, implies};
-ghost use Rattle.spec_rack.specs.Boards.{member};
+ghost use Rattle.spec_arbiter.specs.Boards.{member};
 ghost use Rattle.spec_rack.specs.Soundness.{sizes, soundBytes};
 ghost use Rattle.spec_rack.specs.RecordLayout.{blockSize, blocksOffset, blockOffset, messageOffset, recordLength};
 ghost use Rattle.record_message.specs.Messages.{soundMessageAt};

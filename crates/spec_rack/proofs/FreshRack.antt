@@ -12,7 +12,7 @@ use Rattle.spec_base.proofs.Folds.{all-replicate, sum-replicate}
 use Rattle.spec_wire.specs.declared.Refusal.the-variants.{Size}
 use Rattle.spec_wire.specs.declared.Check.the-variants.{Pass}
 use Rattle.spec_wire.specs.Refusals.{when_refuse_else_}
-use Rattle.spec_rack.proofs.Claims.{none-sound}
+use Rattle.spec_arbiter.proofs.Claims.{none-sound}
 use Rattle.spec_rack.specs.declared.Message.{Message}
 use Rattle.spec_rack.specs.declared.Answer.the-variants.{Done}
 use Rattle.spec_rack.specs.Rack.{Cell, Block, Rack, zeros, noCell, noBlock, fullCell, freshBlock, fresh, blockAt, held, carried, total}

@@ -19,7 +19,7 @@ use Rattle.spec_base.proofs.Laws.{Stands, StandItems, stand-items, Lawful, byte
 use Rattle.spec_base.proofs.Places.{Place, within, first, second, item, write-byte}
 use Rattle.spec_base.proofs.Padded.{room-lawful, padded-place}
 use Rattle.spec_base.proofs.Lanes.{zip-length, zip-at, map-set, length-lane, Spread, place-iso, spread-place, spread-within, spread-as, spread-iso, spread-pair, over-both, spread-zipped, spread-byte, spread-flag, spread-each, first-set, over-one, over-two, over-three, over-four}
-use Rattle.spec_rack.specs.Claims.{Claims}
+use Rattle.spec_arbiter.specs.Claims.{Claims}
 use Rattle.spec_rack.specs.RecordLayout.{claims, headerSize, blockSize, blockOffset, dirtyOffset, wordsOffset, wordsSize, Tokens, TokenBytes, toTokens, fromTokens, dirtyHasOwner, byteLanes, lanesAt, setTokenBytes, setLanes, words, message, tokenLanes, toCell, cellTokens, toBlock, fromBlock, block, header, RackFields, rackLayout, recordLength, toRack, fromRack, layoutOf, get, put, blocksIn, boardsIn, claimsOffset, claimsRoom, messagesIn, tokensIn, meshRoom, laneSize}
 use Rattle.spec_rack.specs.declared.Message.{Message}
 use Rattle.spec_rack.specs.Rack.{Cell, Block, Rack, zeros, noCell, noBlock, blockAt}

@@ -12,7 +12,7 @@ use Rattle.spec_base.proofs.Laws.{Lawful, byte-lawful, flag-lawful, big-lawful,
 use Rattle.spec_base.proofs.Copies.{Full, full-byte, full-flag, full-big, full-pair, full-iso, full-where, full-items}
 use Rattle.spec_base.proofs.Padded.{room-lawful, zeroed-lawful, full-zeroed, padded-lawful, full-padded}
 use Rattle.spec_base.proofs.Lanes.{lane-lawful, zipped-lawful, each-lawful, zip-length, all-zip, all-mapped}
-use Rattle.spec_rack.specs.Claims.{Claims}
+use Rattle.spec_arbiter.specs.Claims.{Claims}
 use Rattle.spec_rack.specs.RecordLayout.{barringSets, toClaims, fromClaims, claims, Tokens, dirty, ownerOf, TokenBytes, toTokens, fromTokens, dirtyHasOwner, tokenBytes, byteLanes, tokens, words, Endpoints, endpoints, messageHeader, toMessage, fromMessage, message, tokenLanes, toCell, cellTokens, toBlock, fromBlock, block, header, blockSize, claimsOffset, claimsRoom, claimsSize, lanesSize, messageSize, headerSize, laneSize}
 use Rattle.spec_rack.specs.declared.Owner.{Owner}
 use Rattle.spec_rack.specs.declared.Owner.the-variants.{Away, Dirty, Clean}

@@ -11,8 +11,8 @@ use Rattle.spec_wire.specs.Refusals.{number, when_refuse_else_}
 use Rattle.spec_wire.specs.Kinds.{kindOf, fieldArray}
 use Rattle.spec_wire.specs.StepRecord.{fieldBytes, recordBytes, stepBytes}
 use Rattle.spec_wire.specs.Reader.{hasHeader, readBody, readRecord}
-use Rattle.spec_rack.specs.Boards.{bit, member, insert, remove, subset, boardsOnly, firstFrom, lowest}
-use Rattle.spec_rack.specs.Claims.{raiseCheck, raised, lowerCheck, lowered, soundBarring, soundClaims}
+use Rattle.spec_arbiter.specs.Boards.{bit, member, insert, remove, subset, boardsOnly, firstFrom, lowest}
+use Rattle.spec_arbiter.specs.Claims.{raiseCheck, raised, lowerCheck, lowered, soundBarring, soundClaims}
 use Rattle.spec_rack.specs.Rack.{meshLimit}
 use Rattle.spec_rack.specs.Soundness.{sound, wellFormedRecord, soundBytes}
 use Rattle.spec_rack.specs.Rules.{check, after, answer, rules, stored, sent, delivered, forwarded}

@@ -6,9 +6,9 @@ use borrow.Author.Tests.{leb-true}
 use Rattle.spec_base.specs.Folds.{All}
 use Rattle.spec_base.proofs.Tests.{and-l, and-r}
 use Rattle.spec_base.proofs.Folds.{all-at, all-of}
-use Rattle.spec_rack.specs.Claims.{Claims}
-use Rattle.spec_rack.proofs.Boards.{boards-lt}
-use Rattle.spec_rack.proofs.Claims.{SoundClaims}
+use Rattle.spec_arbiter.specs.Claims.{Claims}
+use Rattle.spec_arbiter.proofs.Boards.{boards-lt}
+use Rattle.spec_arbiter.proofs.Claims.{SoundClaims}
 use Rattle.spec_rack.specs.Rack.{Rack, meshLimit, noCell, noBlock, noMessage, blockAt, cellAt, claimsAt}
 use Rattle.spec_rack.proofs.SoundnessFacts.{Sound, SoundCell}
 use Rattle.spec_rack.proofs.BlockInvariant.{cell-few, message-few, message-sound, Fits}

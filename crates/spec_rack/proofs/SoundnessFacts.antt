@@ -8,7 +8,7 @@ use lib.Dec.{eqb, ltb}
 use Rattle.spec_base.specs.Folds.{all, All}
 use Rattle.spec_base.proofs.Tests.{and-l, and-r, and-of, not-of-false, implied, implies-of}
 use Rattle.spec_base.proofs.Folds.{below-at, below-of, all-every, every-all}
-use Rattle.spec_rack.proofs.Claims.{SoundClaims, claims-facts, claims-test}
+use Rattle.spec_arbiter.proofs.Claims.{SoundClaims, claims-facts, claims-test}
 use Rattle.spec_rack.specs.declared.Message.{Message}
 use Rattle.spec_rack.specs.Rack.{Cell, Block, Rack, meshLimit, present, supplied, blockAt, claimsAt, held, carried, tokensOf, ownersOf}
 use Rattle.spec_rack.specs.Soundness.{sizes, soundCell, soundMessage, soundBlock, sound}

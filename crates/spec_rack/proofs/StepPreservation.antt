@@ -15,9 +15,9 @@ use Rattle.spec_wire.specs.declared.Check.the-variants.{Pass, Refuse}
 use Rattle.spec_wire.specs.Refusals.{when_refuse_else_}
 use Rattle.spec_wire.specs.declared.Step.{Step}
 use Rattle.spec_wire.specs.declared.Step.the-variants.{Load, Store, Send, Deliver, Raise, Lower, Forward}
-use Rattle.spec_rack.specs.Boards.{boardRoom}
-use Rattle.spec_rack.specs.Claims.{raiseCheck, raised, lowerCheck, lowered}
-use Rattle.spec_rack.proofs.Claims.{SoundClaims, raised-sound, lowered-sound, active-known}
+use Rattle.spec_arbiter.specs.Boards.{boardRoom}
+use Rattle.spec_arbiter.specs.Claims.{raiseCheck, raised, lowerCheck, lowered}
+use Rattle.spec_arbiter.proofs.Claims.{SoundClaims, raised-sound, lowered-sound, active-known}
 use Rattle.spec_rack.specs.declared.Message.{Message}
 use Rattle.spec_rack.specs.declared.Answer.{Answer}
 use Rattle.spec_rack.specs.Rack.{Block, Rack, meshLimit, claimsAt, cellAt}

@@ -10,8 +10,8 @@ use lib.Dec.{eqb, ltb}
 use Rattle.spec_base.specs.Folds.{toℕ, removeAt}
 use Rattle.spec_base.proofs.Tests.{differs, and-l, and-r, and-of, or-left, cond-of, or-keeps}
 use Rattle.spec_base.proofs.Folds.{at-set, all-at, all-snoc, all-removed, all-replicate, sum-snoc, sum-removed, sum-at, length-snoc, length-removed}
-use Rattle.spec_rack.specs.Claims.{Claims, active}
-use Rattle.spec_rack.proofs.Claims.{SoundClaims}
+use Rattle.spec_arbiter.specs.Claims.{Claims, active}
+use Rattle.spec_arbiter.proofs.Claims.{SoundClaims}
 use Rattle.spec_rack.specs.declared.Owner.the-variants.{Away}
 use Rattle.spec_rack.specs.declared.Message.{Message}
 use Rattle.spec_rack.specs.Rack.{Cell, Block, Rack, meshLimit, zeros, isHome, present, clean, mayGoBare, supplied, noCell, noBlock, noMessage, blockAt, claimsAt, cellAt, messageAt, owners, held, carried}

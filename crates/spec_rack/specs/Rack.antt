@@ -5,7 +5,7 @@ use mathlib.Core.List.{List, [], _∷_}
 use lib.ListN.{getD, replicate}
 use lib.Dec.{eqb}
 use Rattle.spec_base.specs.Folds.{toℕ, sum}
-use Rattle.spec_rack.specs.Claims.{Claims, noClaims}
+use Rattle.spec_arbiter.specs.Claims.{Claims, noClaims}
 use Rattle.spec_rack.specs.declared.Owner.{Owner}
 use Rattle.spec_rack.specs.declared.Owner.the-variants.{Away, Dirty, Clean}
 use Rattle.spec_rack.specs.declared.MessageHeader.{MessageHeader}

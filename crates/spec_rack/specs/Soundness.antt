@@ -6,7 +6,7 @@ use mathlib.Core.List.{List}
 use lib.ListN.{length}
 use lib.Dec.{eqb, leb, ltb}
 use Rattle.spec_base.specs.Folds.{all, allBelow, implies}
-use Rattle.spec_rack.specs.Claims.{soundClaims}
+use Rattle.spec_arbiter.specs.Claims.{soundClaims}
 use Rattle.spec_rack.specs.declared.Message.{Message}
 use Rattle.spec_rack.specs.Rack.{Cell, Rack, meshLimit, present, supplied, blockAt, claimsAt, held, carried, tokensOf, ownersOf}
 use Rattle.spec_rack.specs.RecordLayout.{layoutOf, recordLength, get, blocksIn}

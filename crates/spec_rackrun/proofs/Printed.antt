@@ -5,8 +5,8 @@ use Rattle.spec_wire.specs.Kinds.{kindOf, fieldArray}
 use Rattle.spec_wire.specs.StepRecord.{fieldBytes, recordBytes, stepBytes}
 use Rattle.spec_wire.specs.Reader.{hasHeader, readBody, readRecord}
 use Rattle.spec_wire.specs.Frames.{frameSize, frames}
-use Rattle.spec_rack.specs.Boards.{bit, member, insert, remove, firstFrom, lowest}
-use Rattle.spec_rack.specs.Claims.{raiseCheck, raised, lowerCheck, lowered}
+use Rattle.spec_arbiter.specs.Boards.{bit, member, insert, remove, firstFrom, lowest}
+use Rattle.spec_arbiter.specs.Claims.{raiseCheck, raised, lowerCheck, lowered}
 use Rattle.spec_rack.specs.Rack.{meshLimit}
 use Rattle.spec_rack.specs.Rules.{check, after, answer, rules, openingCheck, opening, stored, sent, delivered, forwarded}
 use Rattle.spec_rack.specs.Letter.{letterCheck, letter}

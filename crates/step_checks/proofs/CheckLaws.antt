@@ -13,7 +13,7 @@ use Rattle.spec_wire.specs.declared.Check.the-variants.{Pass, Refuse}
 use Rattle.spec_wire.specs.Refusals.{when_refuse_else_}
 use Rattle.spec_wire.proofs.RefusalTable.{table}
 use Rattle.spec_wire.specs.declared.Step.the-variants.{Load, Store, Send, Deliver, Raise, Lower, Forward}
-use Rattle.spec_rack.specs.Claims.{raiseCheck, lowerCheck}
+use Rattle.spec_arbiter.specs.Claims.{raiseCheck, lowerCheck}
 use Rattle.spec_rack.specs.Rack.{Cell, Rack, owners, claimsAt, cellAt, held}
 use Rattle.spec_rack.specs.Rules.{check, offRack}
 use Rattle.record.specs.declared.TokenState.{TokenState}

@@ -7,7 +7,7 @@ use native.Mathlib.Omega.{arith}
 use lib.ListN.{length, getD}
 use Rattle.spec_base.specs.Number.{Bytes}
 use Rattle.spec_base.specs.Layout.{slice, modifyAt}
-use Rattle.spec_rack.specs.Claims.{Claims}
+use Rattle.spec_arbiter.specs.Claims.{Claims}
 use Rattle.spec_rack.specs.RecordLayout.{claims, putClaims, blockOffset, claimsOffset, get, put, blocksIn, boardsIn, claimsSize}
 use Rattle.spec_rack.specs.RecordLayout as bytes-of
 use Rattle.spec_rack.specs.Rack.{claimsAt}

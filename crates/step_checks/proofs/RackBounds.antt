@@ -12,7 +12,7 @@ use Rattle.spec_base.proofs.Tests.{differs, lt-or-le, and-l, and-r, or-l, or-r,
 use Rattle.spec_base.specs.Number.{Bytes}
 use Rattle.spec_base.specs.Layout.{slice}
 use Rattle.spec_wire.specs.declared.Check.{Check}
-use Rattle.spec_rack.specs.Claims.{Claims}
+use Rattle.spec_arbiter.specs.Claims.{Claims}
 use Rattle.spec_rack.specs.RecordLayout.{claims, blockOffset, claimsOffset, get, blocksIn, boardsIn, claimsSize, messagesIn}
 use Rattle.spec_rack.specs.Rack.{meshLimit, claimsAt}
 use Rattle.spec_rack.specs.Rules.{offRack, meshFull}

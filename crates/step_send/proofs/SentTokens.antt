@@ -8,7 +8,7 @@ use lib.ListN.{length}
 use Rattle.spec_base.specs.Folds.{All}
 use Rattle.spec_base.proofs.Folds.{all-snoc, all-replicate, length-snoc}
 use Rattle.spec_base.specs.Number.{Bytes}
-use Rattle.spec_rack.specs.Claims.{active}
+use Rattle.spec_arbiter.specs.Claims.{active}
 use Rattle.spec_rack.specs.declared.Owner.{Owner}
 use Rattle.spec_rack.specs.Rack.{Cell, Rack, zeros, present, claimsAt, cellAt}
 use Rattle.spec_rack.specs.Rules.{takenOwner, withoutTokens, message, sent, forwarded}

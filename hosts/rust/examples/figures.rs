@@ -1,5 +1,5 @@
-//! Prints every figure of the records in a file, which stand there one after the other.
-//! `tests/view_compare.c` writes such a file and prints the same lines by the view in C.
+//! Prints every figure of the records in a file, which stand there one after the other, and the state
+//! letters. `tests/view_compare.c` writes such a file and prints the same lines by the view in C.
 
 use hyaloneth::{Boards, Owner, View};
 use std::fmt::Write;
@@ -42,9 +42,9 @@ fn figures(view: &View) -> Result<String, std::fmt::Error> {
                 cell.held(),
                 words(&cell.words)
             )?;
-            match view.barring(component, block) {
-                Some(barring) => writeln!(out, " {:04x}", bits(barring))?,
-                None => writeln!(out)?,
+            match (view.barring(component, block), view.letter(component, block)) {
+                (Some(barring), Some(letter)) => writeln!(out, " {:04x} {letter}", bits(barring))?,
+                _ => writeln!(out)?,
             }
         }
     }

@@ -1,9 +1,10 @@
 //! Two policies over the engine, each with a flat memory beside it that every answered load must
-//! agree with: one that takes turns and works, and a foolish one. `hosts/c/policy.c` is the same
-//! program in C and prints the same lines for the same seed.
+//! agree with: one that takes turns and works, and a foolish one. A display looks at the state letters
+//! of both. `hosts/c/policy.c` is the same program in C and prints the same lines for the same seed.
 
 use hyaloneth::script::records;
-use hyaloneth::{Answer, Owner, Record, Refusal, Reply, Step, View};
+use hyaloneth::{Answer, Letter, Owner, Record, Refusal, Reply, Step, View};
+use std::fmt;
 use std::process::ExitCode;
 
 const ROUNDS: u32 = 3_000;
@@ -80,10 +81,60 @@ impl FlatMemory {
     }
 }
 
+/// How often the display has shown each letter.
+#[derive(Default)]
+struct Shown {
+    modified: u32,
+    owned: u32,
+    exclusive: u32,
+    shared: u32,
+    invalid: u32,
+}
+
+impl Shown {
+    /// The display looks at a block. Where a board shows E, there is no other copy and home has the
+    /// words: those that the flat memory has.
+    fn show(&mut self, view: &View, block: u32, memory: &mut FlatMemory) {
+        for board in 1..=view.boards() {
+            match view.letter(board, block) {
+                Some(Letter::Modified) => self.modified += 1,
+                Some(Letter::Owned) => self.owned += 1,
+                Some(Letter::Exclusive) => {
+                    self.exclusive += 1;
+                    let home = view.cell(HOME, block).map_or([0; 8], |cell| cell.words);
+                    for (word, value) in home.into_iter().enumerate() {
+                        if value != memory.words[block as usize][word] {
+                            memory.wrong += 1;
+                            println!(
+                                "WRONG: board {board} shows E of block {block}, and home has \
+                                 another word {word}"
+                            );
+                        }
+                    }
+                }
+                Some(Letter::Shared) => self.shared += 1,
+                Some(Letter::Invalid) => self.invalid += 1,
+                None => {
+                    memory.wrong += 1;
+                    println!("WRONG: board {board} shows no letter of block {block}");
+                }
+            }
+        }
+    }
+}
+
+impl fmt::Display for Shown {
+    fn fmt(&self, f: &mut fmt::Formatter<'_>) -> fmt::Result {
+        let Shown { modified, owned, exclusive, shared, invalid } = self;
+        write!(f, "{modified} M, {owned} O, {exclusive} E, {shared} S, {invalid} I")
+    }
+}
+
 /// A rack whose policy takes turns.
 struct Turns<'a> {
     rack: Record<'a>,
     memory: FlatMemory,
+    shown: Shown,
     steps: u32,
     /// Raises refused because the board waits already, and because it is barred.
     waiting: u32,
@@ -100,6 +151,11 @@ impl Turns<'_> {
         let reply = self.rack.step(&step)?;
         self.memory.take(step, reply);
         Ok(reply)
+    }
+
+    fn show(&mut self, block: u32) -> Result<(), Refusal> {
+        self.shown.show(&self.rack.view()?, block, &mut self.memory);
+        Ok(())
     }
 
     /// Raises a claim, if the board may have one now.
@@ -175,6 +231,7 @@ impl Turns<'_> {
         }
         while let Some(component) = self.view()?.active(block) {
             self.fill(dice, component, block)?;
+            self.show(block)?;
             let stores = dice.draw(4);
             for _ in 0..stores {
                 let word = dice.draw(8);
@@ -261,8 +318,8 @@ impl Turns<'_> {
 fn take_turns(seed: u64, boards: u32, blocks: u32, tokens: u32) -> Result<u32, Refusal> {
     let mut buffer = vec![0; Record::len_for(blocks)?];
     let rack = Record::open(&mut buffer, boards, blocks, tokens)?;
-    let memory = FlatMemory::default();
-    let mut turns = Turns { rack, memory, steps: 0, waiting: 0, barred: 0 };
+    let (memory, shown) = (FlatMemory::default(), Shown::default());
+    let mut turns = Turns { rack, memory, shown, steps: 0, waiting: 0, barred: 0 };
     let mut dice = Dice::new(seed);
     for _ in 0..ROUNDS {
         let block = dice.draw(blocks);
@@ -274,16 +331,18 @@ fn take_turns(seed: u64, boards: u32, blocks: u32, tokens: u32) -> Result<u32, R
             }
             _ => turns.read_turn(&mut dice, HOME, block)?,
         }
+        turns.show(block)?;
     }
     println!(
         "turns: boards {boards}, blocks {blocks}, tokens {tokens}: {} steps, {} stores, {} loads \
-         ({} at home), {} sends ({} bare); raises refused: {} waiting, {} barred",
+         ({} at home), {} sends ({} bare); letters: {}; raises refused: {} waiting, {} barred",
         turns.steps,
         turns.memory.stores,
         turns.memory.loads,
         turns.memory.home_loads,
         turns.memory.sends,
         turns.memory.bare_sends,
+        turns.shown,
         turns.waiting,
         turns.barred
     );
@@ -350,6 +409,7 @@ fn be_foolish(seed: u64) -> Result<u32, Refusal> {
     let mut refused = [0; 21];
     let (mut loads, mut home_loads, mut stores, mut wrong) = (0, 0, 0, 0);
     let (mut sends, mut bare_sends) = (0, 0);
+    let mut shown = Shown::default();
     for rack_number in 0..FOOLISH_RACKS {
         // A lazy rack delivers little and claims nothing, so that its mesh becomes full.
         let lazy = rack_number % 8 == 0;
@@ -384,6 +444,9 @@ fn be_foolish(seed: u64) -> Result<u32, Refusal> {
                     }
                 }
             }
+            for block in 0..blocks {
+                shown.show(&rack.view()?, block, &mut memory);
+            }
         }
         wrong += memory.wrong + wrong_totals(&rack.view()?);
         loads += memory.loads;
@@ -394,7 +457,8 @@ fn be_foolish(seed: u64) -> Result<u32, Refusal> {
     }
     println!(
         "foolish: {FOOLISH_RACKS} racks: {accepted} steps accepted, of them {stores} stores, \
-         {loads} loads ({home_loads} at home), {sends} sends ({bare_sends} bare); refused:"
+         {loads} loads ({home_loads} at home), {sends} sends ({bare_sends} bare); letters: \
+         {shown}; refused:"
     );
     for refusal in Refusal::ALL {
         let count = refused[refusal.number() as usize];

@@ -47,35 +47,80 @@ impl fmt::Display for Reply {
     }
 }
 
-/// The state letter of a board and a block.
+/// The state letter of a board and a block, by what the board holds of the block's T tokens.
+///
+/// A board that gets a whole block shows E, and M once it has stored:
 ///
 /// ```
-/// use hyaloneth::Letter;
+/// use hyaloneth::{Letter, Record, Refusal, Step};
 ///
-/// assert_eq!(Letter::Modified.char(), 'M');
-/// assert_eq!(Letter::Invalid.to_string(), "I");
+/// let mut buffer = [0; Record::LONGEST];
+/// let mut rack = Record::open(&mut buffer, 2, 1, 3)?;
+/// let send = |component, target, data| {
+///     Step::Send { component, block: 0, target, plain: 2, owner: true, data }
+/// };
+/// let oldest = Step::Deliver { position: 0 };
+/// rack.step(&send(0, 1, true))?;
+/// rack.step(&oldest)?;
+/// assert_eq!(rack.letter(1, 0), Ok(Letter::Exclusive));
+/// rack.step(&Step::Store { component: 1, block: 0, word: 0, value: 42 })?;
+/// assert_eq!(rack.letter(1, 0), Ok(Letter::Modified));
+///
+/// // At home the owner becomes clean. A board that shows E may give the block back bare.
+/// rack.step(&send(1, 0, true))?;
+/// rack.step(&oldest)?;
+/// rack.step(&send(0, 2, true))?;
+/// rack.step(&oldest)?;
+/// assert_eq!(rack.letter(2, 0), Ok(Letter::Exclusive));
+/// rack.step(&send(2, 0, false))?;
+/// assert_eq!(rack.letter(2, 0), Ok(Letter::Invalid));
+/// # Ok::<(), Refusal>(())
 /// ```
 #[derive(Clone, Copy, Debug, PartialEq, Eq, Hash)]
 pub enum Letter {
-    /// M: all T tokens.
+    /// M: all T, and the owner is dirty.
     Modified,
-    /// O: the owner and fewer than T.
+    /// O: the owner, clean or dirty, and fewer than T.
     Owned,
-    /// S: valid, with plain tokens only.
+    /// E: all T, and the owner is clean. There is no other copy, and home has the words, as
+    /// [`Owner`](crate::Owner) says of clean owners.
+    Exclusive,
+    /// S: plain tokens only, and its words are valid.
     Shared,
-    /// I: anything else.
+    /// I: anything else; that is no token, or plain tokens only without valid words.
     Invalid,
 }
 
 impl Letter {
-    /// The letter itself: `M`, `O`, `S` or `I`.
+    /// The letter itself: `M`, `O`, `E`, `S` or `I`.
+    ///
+    /// ```
+    /// use hyaloneth::Letter;
+    ///
+    /// assert_eq!(Letter::Modified.char(), 'M');
+    /// assert_eq!(Letter::Exclusive.char(), 'E');
+    /// assert_eq!(Letter::Invalid.to_string(), "I");
+    /// ```
     pub fn char(self) -> char {
         match self {
             Letter::Modified => 'M',
             Letter::Owned => 'O',
+            Letter::Exclusive => 'E',
             Letter::Shared => 'S',
             Letter::Invalid => 'I',
         }
+    }
+
+    /// Whether the board may store: it holds all T, so it shows M or E.
+    ///
+    /// ```
+    /// use hyaloneth::Letter::*;
+    ///
+    /// assert!([Modified, Exclusive].into_iter().all(|letter| letter.may_store()));
+    /// assert!(![Owned, Shared, Invalid].into_iter().any(|letter| letter.may_store()));
+    /// ```
+    pub fn may_store(self) -> bool {
+        matches!(self, Letter::Modified | Letter::Exclusive)
     }
 }
 
@@ -126,6 +171,7 @@ pub(crate) fn letter(result: u64) -> Result<Letter, Refusal> {
     match unpack(result)? {
         (LETTER_GIVEN, 0x4d) => Ok(Letter::Modified),
         (LETTER_GIVEN, 0x4f) => Ok(Letter::Owned),
+        (LETTER_GIVEN, 0x45) => Ok(Letter::Exclusive),
         (LETTER_GIVEN, 0x53) => Ok(Letter::Shared),
         (LETTER_GIVEN, 0x49) => Ok(Letter::Invalid),
         _ => unknown(result),
@@ -187,6 +233,108 @@ mod tests {
     #[should_panic = "the library's result 0x0500000000000000 is not in include/hyaloneth.h"]
     fn an_unknown_kind_is_no_reply() {
         let _ = Answer(0x0500_0000_0000_0000).get();
+    }
+
+    /// The letters that the header lists, as the engine packs them.
+    const LETTERS: [(char, u64, Letter); 5] = [
+        ('M', 0x0300_0000_0000_004d, Letter::Modified),
+        ('O', 0x0300_0000_0000_004f, Letter::Owned),
+        ('E', 0x0300_0000_0000_0045, Letter::Exclusive),
+        ('S', 0x0300_0000_0000_0053, Letter::Shared),
+        ('I', 0x0300_0000_0000_0049, Letter::Invalid),
+    ];
+
+    #[test]
+    fn packed_numbers_are_letters() {
+        for (char, packed, want) in LETTERS {
+            assert_eq!(letter(packed), Ok(want), "{packed:#018x}");
+            assert_eq!((want.char(), want.to_string()), (char, char.to_string()));
+        }
+        for refusal in [Refusal::Unsound, Refusal::OffRack, Refusal::Home] {
+            let packed = 0x0100_0000_0000_0000 | u64::from(refusal.number());
+            assert_eq!(letter(packed), Err(refusal));
+        }
+    }
+
+    #[test]
+    fn the_header_lists_the_letters() {
+        let header = include_str!("../../../include/hyaloneth.h");
+        let listed = header.lines().filter_map(|line| line.strip_prefix(" *   '")?.chars().next());
+        assert!(listed.eq(LETTERS.map(|(char, _, _)| char)));
+    }
+
+    #[test]
+    fn other_codes_are_no_letters() {
+        for code in (0..=0xff).filter(|&code| LETTERS.iter().all(|&(char, ..)| char as u64 != code))
+        {
+            let packed = 0x0300_0000_0000_0000 | code;
+            assert!(std::panic::catch_unwind(|| letter(packed)).is_err(), "{packed:#018x}");
+        }
+    }
+
+    #[test]
+    #[should_panic = "the library's result 0x0300000000000065 is not in include/hyaloneth.h"]
+    fn a_small_letter_is_none() {
+        let _ = letter(0x0300_0000_0000_0065);
+    }
+
+    /// The letter as the engine packs it.
+    fn packed_letter(buffer: &[u8], component: u32, block: u32) -> u64 {
+        // SAFETY: the pointer comes from a slice, with its length.
+        unsafe { ffi::hyl_letter(buffer.as_ptr(), buffer.len(), component, block) }
+    }
+
+    /// Boards 1 and up show these letters after the opening of a script and after each of its steps.
+    fn packs_letters(script: &str, want: &[&str]) {
+        let input = assemble(script).unwrap();
+        let (sizes, list) = input.split_at(3);
+        let [boards, blocks, tokens] = [sizes[0], sizes[1], sizes[2]].map(u32::from);
+        let mut buffer = vec![0; Record::len_for(blocks).unwrap()];
+        Record::open(&mut buffer, boards, blocks, tokens).unwrap();
+        let mut shown = Vec::new();
+        let mut show = |buffer: &[u8]| {
+            let packed = (1..=boards).map(|board| packed_letter(buffer, board, 0));
+            let chars = packed.map(|packed| LETTERS.iter().find(|row| row.1 == packed).unwrap().0);
+            shown.push(chars.collect::<String>());
+            assert_eq!(packed_letter(buffer, 0, 0), 0x0100_0000_0000_0004);
+            for (component, block) in [(boards + 1, 0), (1, blocks), (0, blocks), (258, 0)] {
+                assert_eq!(packed_letter(buffer, component, block), 0x0100_0000_0000_0003);
+            }
+            // A byte too short: 2, before 3 and 4.
+            for component in 0..=boards + 1 {
+                let short = packed_letter(&buffer[..buffer.len() - 1], component, 0);
+                assert_eq!(short, 0x0100_0000_0000_0002);
+            }
+        };
+        show(&buffer);
+        for step in records(list) {
+            assert!(Record::over(&mut buffer).step_bytes(step).is_ok());
+            show(&buffer);
+        }
+        assert_eq!(shown, want);
+    }
+
+    #[test]
+    fn the_engine_packs_letters() {
+        packs_letters(
+            include_str!("../../traces/exclusive.trace"),
+            &[
+                "II", "II", "EI", "MI", "II", "II", "II", "EI", "OI", "OS", "OI", "EI", "MI", "II",
+                "IM", "II", "II", "II", "IE", "II", "II", "II", "II", "II", "EI", "EI",
+            ],
+        );
+        // One token, which is the owner.
+        packs_letters(
+            "rack 1 board 1 block 1 token
+             send home block 0 -> 1 owner data
+             deliver 0
+             store 1 block 0 word 0 = 0
+             send 1 block 0 -> home owner data
+             deliver 0
+             send home block 0 -> 1 owner data
+             deliver 0",
+            &["I", "I", "E", "M", "I", "I", "I", "E"],
+        );
     }
 
     /// A script runs to these packed numbers, step by step and as a list.

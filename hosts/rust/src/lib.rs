@@ -11,6 +11,7 @@
 //! [`View`] reads the figures of a record, and [`script`] is the readable form of step records that
 //! the program `hyaloneth-trace` speaks. The owner token of a block is clean or dirty, which the view
 //! tells too: a board that only read may give the block back without the words. [`Owner`] shows it.
+//! [`Letter`] is what a display shows of a board and a block.
 //!
 //! ```
 //! use hyaloneth::{Letter, Record, Refusal, Reply, Step};
@@ -24,9 +25,10 @@
 //! rack.step(&Step::Send { component: 0, block: 0, target: 1, plain: 2, owner: true, data: true })?;
 //! let reply = rack.step(&Step::Deliver { position: 0 })?;
 //! assert_eq!(reply, Reply::Served { component: 1, block: 0 });
+//! assert_eq!(rack.letter(1, 0), Ok(Letter::Exclusive));
 //! rack.step(&Step::Store { component: 1, block: 0, word: 0, value: 42 })?;
-//! assert_eq!(rack.step(&Step::Load { component: 1, block: 0, word: 0 }), Ok(Reply::Word(42)));
 //! assert_eq!(rack.letter(1, 0), Ok(Letter::Modified));
+//! assert_eq!(rack.step(&Step::Load { component: 1, block: 0, word: 0 }), Ok(Reply::Word(42)));
 //!
 //! // Board 2 has no token.
 //! assert_eq!(rack.step(&Step::Load { component: 2, block: 0, word: 0 }), Err(Refusal::NoToken));

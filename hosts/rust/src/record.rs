@@ -187,7 +187,7 @@ impl<'a> Record<'a> {
         }
     }
 
-    /// The state letter of a board and a block.
+    /// The state letter of a board and a block: M, O, E, S or I. [`Letter`] says what each means.
     ///
     /// Refused with [`Refusal::Unsound`], [`Refusal::OffRack`] or [`Refusal::Home`], in that order.
     ///

@@ -47,7 +47,8 @@ pub enum Step {
         /// The word of the block, 0 to 7.
         word: u32,
     },
-    /// Writes a word in one component. The owner, which it holds, becomes dirty.
+    /// Writes a word in one component. The owner, which it holds, becomes dirty: a board that shows
+    /// E shows M afterwards.
     Store {
         /// The board that stores.
         component: u32,

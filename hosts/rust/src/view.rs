@@ -68,9 +68,11 @@ pub struct View<'a> {
 pub enum Owner {
     /// The owner is elsewhere.
     Away,
-    /// The owner is here, and no store was made since it was last at home.
+    /// The owner is here, and no store was made since it was last at home. A board that holds all
+    /// tokens shows [`Letter::Exclusive`].
     Clean,
-    /// The owner is here, and a store was made since it was last at home.
+    /// The owner is here, and a store was made since it was last at home. A board that holds all
+    /// tokens shows [`Letter::Modified`].
     Dirty,
 }
 

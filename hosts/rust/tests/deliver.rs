@@ -1,6 +1,6 @@
 //! Deliveries to the byte, and owners that go home bare. What each step changes is written down here
 //! by the rules and docs/RECORD.md; after every step the whole lent buffer is compared, also behind
-//! the record.
+//! the record, and the state letters with what they are by the bytes.
 
 use hyaloneth::Step::*;
 use hyaloneth::{Cell, Letter, Owner, Record, Refusal, Reply, Step, View};
@@ -128,6 +128,25 @@ impl Lent {
     fn compare(&self, after: &str) {
         let differ = (0..self.want.len()).find(|&at| self.given[at] != self.want[at]);
         assert_eq!(differ, None, "a byte that differs after {after}");
+        let view = View::of(&self.given).unwrap();
+        for (component, of) in (0..usize::from(self.want[1])).flat_map(|of| [(1, of), (2, of)]) {
+            let letter = view.letter(component as u32, of as u32);
+            assert_eq!(letter, Some(self.letter(component, of)), "a letter after {after}");
+        }
+    }
+
+    /// The letter by the bytes that the buffer must have.
+    fn letter(&self, component: usize, of: usize) -> Letter {
+        let [plain, owner, valid, dirty] = [plain_offset, owner_offset, valid_offset, dirty_offset]
+            .map(|offset| self.want[offset(component, of)]);
+        match (plain + owner == self.want[2], owner, dirty, valid) {
+            (true, 1, 1, 1) => Letter::Modified,
+            (true, 1, 0, 1) => Letter::Exclusive,
+            (false, 1, _, 1) => Letter::Owned,
+            (false, 0, 0, 1) => Letter::Shared,
+            (false, 0, 0, 0) => Letter::Invalid,
+            figures => panic!("not sound: {figures:?}"),
+        }
     }
 
     fn cell(&mut self, component: u32, block: u32) -> Cell {
@@ -413,6 +432,9 @@ fn damaged_marks_are_refused() {
     all_to_board_1(&mut lent);
     let dirty = changed(&lent, dirty_offset(1, 0), 1).unwrap();
     assert_eq!(View::of(&dirty).unwrap().cell(1, 0).unwrap().owner, Owner::Dirty);
+    // The mark alone tells M from E.
+    assert_eq!(View::of(&lent.given).unwrap().letter(1, 0), Some(Letter::Exclusive));
+    assert_eq!(View::of(&dirty).unwrap().letter(1, 0), Some(Letter::Modified));
     for byte in [2, 3, 0x80, 0xff] {
         assert_eq!(changed(&lent, dirty_offset(1, 0), byte), None);
     }
@@ -471,5 +493,6 @@ fn a_dirty_owner_at_home_is_sound() {
     lent.step(send(0, 0, 1, 2, true, true), &[(message_offset(0), &all), (COUNT_OFFSET, &[1])]);
     lent.put_tokens(1, [2, 1, 1, 1]);
     lent.step(OLDEST, &[(COUNT_OFFSET, &[0])]);
+    assert_eq!(Record::over(&mut lent.given).letter(1, 0), Ok(Letter::Modified));
     lent.gives(send(1, 0, 0, 2, true, false), Err(Refusal::BareOwner));
 }

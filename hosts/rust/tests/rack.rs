@@ -1,5 +1,5 @@
-//! The examples of document 01, loads at home, bare owners, and the edges of the wrapper, over the
-//! proved archives.
+//! The examples of document 01, loads at home, bare owners, state letters, and the edges of the
+//! wrapper, over the proved archives.
 
 use hyaloneth::script::reply_text;
 use hyaloneth::Refusal::*;
@@ -67,6 +67,45 @@ impl Rack {
     fn letter(&mut self, board: u32) -> Result<Letter, Refusal> {
         self.record().letter(board, 0)
     }
+
+    /// Boards 1 and up show these letters of block 0. What follows from a letter is tried on a copy:
+    /// a store is accepted at M and E alone, and leaves M; the whole block goes home bare from E and
+    /// not from M.
+    fn shows(&mut self, letters: &str) {
+        for (board, char) in (1..).zip(letters.chars()) {
+            let letter = self.letter(board).unwrap();
+            assert_eq!(letter.char(), char, "board {board} of {letters}");
+            let record = self.record();
+            let view = record.view().unwrap();
+            assert_eq!(view.letter(board, 0), Some(letter));
+            assert_eq!(letter.may_store(), view.cell(board, 0).unwrap().held() == view.tokens());
+            let (plain, claimed) = (view.tokens() - 1, view.active(0).is_some());
+
+            let mut copy = Rack(self.0.clone());
+            if !letter.may_store() {
+                copy.refused(store(board), Short);
+                continue;
+            }
+            let bare = send(board, 0, plain, true, false);
+            match letter {
+                _ if claimed => copy.refused(bare, Claimed),
+                Letter::Exclusive => {
+                    copy.done(bare);
+                    copy = Rack(self.0.clone());
+                }
+                _ => copy.refused(bare, BareOwner),
+            }
+            copy.done(store(board));
+            assert_eq!(copy.letter(board), Ok(Letter::Modified));
+        }
+    }
+
+    /// All of block 0 goes from a component that holds it to another, with the words.
+    fn move_all(&mut self, component: u32, target: u32) {
+        let plain = self.record().view().unwrap().tokens() - 1;
+        self.done(send(component, target, plain, true, true));
+        self.served(OLDEST, target);
+    }
 }
 
 fn load(component: u32) -> Step {
@@ -111,6 +150,7 @@ fn w1_a_load_needs_a_token() {
 #[test]
 fn w2_to_w4_stores_need_all_tokens_and_loads_data() {
     let mut rack = w2();
+    assert_eq!(rack.letter(1), Ok(Letter::Exclusive));
     rack.done(store(1));
     assert_eq!(rack.letter(1), Ok(Letter::Modified));
 
@@ -386,6 +426,212 @@ fn the_bytes_of_a_bare_send() {
     rack.served(OLDEST, 2);
     assert_eq!(rack.record().step_bytes(&bytes), Ok(Reply::Done));
     rack.served(OLDEST, 0);
+}
+
+#[test]
+fn a_whole_block_shows_e_before_a_store_and_m_after() {
+    let mut rack = Rack::new();
+    rack.shows("II");
+    rack.done(send(0, 1, 2, true, true));
+    rack.shows("II");
+    rack.served(OLDEST, 1);
+    rack.shows("EI");
+    rack.done(store(1));
+    rack.shows("MI");
+    // Home makes the owner clean.
+    rack.move_all(1, 0);
+    rack.shows("II");
+    rack.move_all(0, 1);
+    rack.shows("EI");
+    rack.done(send(1, 2, 1, false, true));
+    rack.shows("OI");
+    rack.served(OLDEST, 2);
+    rack.shows("OS");
+    assert_eq!(rack.owner(1), Owner::Clean);
+}
+
+#[test]
+fn a_store_of_the_value_that_is_there_makes_e_m() {
+    let mut rack = w2();
+    rack.shows("EI");
+    rack.done(Store { component: 1, block: 0, word: 7, value: 0 });
+    rack.shows("MI");
+    rack.move_all(1, 0);
+    rack.move_all(0, 2);
+    rack.shows("IE");
+}
+
+#[test]
+fn only_an_accepted_store_makes_e_m() {
+    let mut rack = w2();
+    rack.loaded(load(1), 0);
+    rack.refused(Store { component: 1, block: 0, word: 8, value: 1 }, OffRack);
+    rack.refused(Store { component: 1, block: 1, word: 0, value: 1 }, OffRack);
+    rack.refused(store(2), Short);
+    rack.refused(send(1, 2, 2, true, false), BareOwner);
+    rack.shows("EI");
+    rack.done(raise(1));
+    rack.done(raise(2));
+    rack.shows("EI");
+    rack.done(lower(1));
+    rack.done(lower(2));
+    rack.shows("EI");
+}
+
+#[test]
+fn one_token_shows_e_and_then_m() {
+    let mut rack = Rack::of(1, 1, 1);
+    rack.shows("I");
+    rack.move_all(0, 1);
+    rack.shows("E");
+    rack.done(store(1));
+    rack.shows("M");
+    rack.move_all(1, 0);
+    rack.shows("I");
+    rack.move_all(0, 1);
+    rack.shows("E");
+}
+
+/// With T tokens, whatever T is; with one fewer the owner shows O.
+#[test]
+fn e_and_m_need_all_tokens() {
+    for tokens in 2..=64 {
+        let mut rack = Rack::of(2, 1, tokens);
+        rack.done(send(0, 2, tokens - 2, true, true));
+        rack.served(OLDEST, 2);
+        rack.shows("IO");
+        rack.done(send(0, 2, 1, false, false));
+        rack.served(OLDEST, 2);
+        rack.shows("IE");
+        rack.done(store(2));
+        rack.shows("IM");
+        rack.done(send(2, 1, 1, false, false));
+        rack.shows("IO");
+    }
+}
+
+#[test]
+fn plain_tokens_show_s_with_data_and_else_i() {
+    let mut rack = Rack::new();
+    rack.done(send(0, 1, 1, false, false));
+    rack.served(OLDEST, 1);
+    rack.shows("II");
+    rack.done(send(0, 1, 1, false, true));
+    rack.served(OLDEST, 1);
+    rack.shows("SI");
+    // The owner comes to them, and goes bare and alone: what stays is still valid.
+    rack.done(send(0, 1, 0, true, true));
+    rack.served(OLDEST, 1);
+    rack.shows("EI");
+    rack.done(send(1, 0, 0, true, false));
+    rack.shows("SI");
+}
+
+#[test]
+fn an_owner_shows_o_with_either_mark() {
+    for (stored, whole) in [(false, "EI"), (true, "MI")] {
+        let mut rack = w2();
+        if stored {
+            rack.done(store(1));
+        }
+        rack.done(send(1, 2, 1, false, true));
+        rack.served(OLDEST, 2);
+        rack.shows("OS");
+        // The last token brings back what the mark says.
+        rack.done(send(2, 1, 1, false, false));
+        rack.shows("OI");
+        rack.served(OLDEST, 1);
+        rack.shows(whole);
+    }
+}
+
+#[test]
+fn what_shows_e_goes_home_bare_and_comes_back_as_e() {
+    let mut rack = w2();
+    for board in [1, 2, 1] {
+        rack.done(send(board, 0, 2, true, false));
+        rack.shows("II");
+        rack.served(OLDEST, 0);
+        rack.shows("II");
+        rack.move_all(0, 3 - board);
+        rack.shows(if board == 1 { "IE" } else { "EI" });
+    }
+}
+
+#[test]
+fn a_dirty_owner_shows_m_at_the_next_boards() {
+    let mut rack = Rack::of(3, 1, 5);
+    rack.move_all(0, 1);
+    rack.done(store(1));
+    rack.shows("MII");
+    rack.move_all(1, 2);
+    rack.shows("IMI");
+    rack.move_all(2, 3);
+    rack.shows("IIM");
+    rack.move_all(3, 0);
+    rack.move_all(0, 3);
+    rack.shows("IIE");
+    // A clean one shows E at them.
+    rack.move_all(3, 1);
+    rack.shows("EII");
+}
+
+#[test]
+fn a_forward_shows_e_or_m_at_the_board_that_raised() {
+    for (stored, before, after) in [(false, "EI", "IE"), (true, "MI", "IM")] {
+        let mut rack = w2();
+        if stored {
+            rack.done(store(1));
+        }
+        rack.done(raise(2));
+        rack.shows(before);
+        rack.done(forward(1));
+        rack.shows("II");
+        rack.served(OLDEST, 2);
+        rack.shows(after);
+        rack.done(lower(2));
+        rack.shows(after);
+    }
+    // From home, where an owner is clean.
+    let mut rack = Rack::new();
+    rack.done(raise(1));
+    rack.done(forward(0));
+    rack.served(OLDEST, 1);
+    rack.shows("EI");
+}
+
+#[test]
+fn a_letter_is_that_of_its_block() {
+    let mut rack = Rack::of(2, 3, 3);
+    for block in [0, 2] {
+        rack.done(Send { component: 0, block, target: 1, plain: 2, owner: true, data: true });
+        assert_eq!(rack.step(OLDEST), Ok(Reply::Served { component: 1, block }));
+    }
+    rack.done(Store { component: 1, block: 2, word: 0, value: 1 });
+    let record = rack.record();
+    for (block, letter) in [(0, Letter::Exclusive), (1, Letter::Invalid), (2, Letter::Modified)] {
+        assert_eq!(record.letter(1, block), Ok(letter));
+        assert_eq!(record.view().unwrap().letter(1, block), Some(letter));
+    }
+}
+
+#[test]
+fn letters_are_refused_in_the_order_of_the_table() {
+    let mut stored = w2();
+    stored.done(store(1));
+    for mut rack in [Rack::new(), w2(), stored] {
+        let record = rack.record();
+        assert_eq!(record.letter(0, 0), Err(Home));
+        for (component, block) in [(3, 0), (1, 1), (0, 1), (258, 0), (1, 256), (256, 0)] {
+            assert_eq!(record.letter(component, block), Err(OffRack), "{component} {block}");
+        }
+        // A byte too short is 2, before 3 and 4.
+        rack.0.pop();
+        let record = rack.record();
+        for (component, block) in [(1, 0), (2, 0), (0, 0), (3, 0), (1, 1), (258, 0)] {
+            assert_eq!(record.letter(component, block), Err(Unsound), "{component} {block}");
+        }
+    }
 }
 
 #[test]

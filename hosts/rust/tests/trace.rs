@@ -168,6 +168,63 @@ fn bare_owners() {
 }
 
 #[test]
+fn the_letter_e() {
+    is_input(
+        include_str!("../../traces/exclusive.trace"),
+        "02 01 03 \
+         12 00 18 01 00 01 00 02 00 01 00 05 00 01 01 06 00 01 02 07 00 01 01 08 00 01 01 \
+         13 00 04 09 00 01 00 \
+         11 00 13 01 00 01 01 02 00 01 00 03 00 01 00 04 00 04 00 00 00 01 \
+         12 00 18 01 00 01 01 02 00 01 00 05 00 01 00 06 00 01 02 07 00 01 01 08 00 01 01 \
+         13 00 04 09 00 01 00 \
+         12 00 18 01 00 01 00 02 00 01 00 05 00 01 01 06 00 01 02 07 00 01 01 08 00 01 01 \
+         13 00 04 09 00 01 00 \
+         12 00 18 01 00 01 01 02 00 01 00 05 00 01 02 06 00 01 01 07 00 01 00 08 00 01 01 \
+         13 00 04 09 00 01 00 \
+         12 00 18 01 00 01 02 02 00 01 00 05 00 01 01 06 00 01 01 07 00 01 00 08 00 01 00 \
+         13 00 04 09 00 01 00 \
+         11 00 13 01 00 01 01 02 00 01 00 03 00 01 00 04 00 04 00 00 00 01 \
+         12 00 18 01 00 01 01 02 00 01 00 05 00 01 02 06 00 01 02 07 00 01 01 08 00 01 01 \
+         13 00 04 09 00 01 00 \
+         12 00 18 01 00 01 02 02 00 01 00 05 00 01 00 06 00 01 02 07 00 01 01 08 00 01 01 \
+         13 00 04 09 00 01 00 \
+         12 00 18 01 00 01 00 02 00 01 00 05 00 01 02 06 00 01 02 07 00 01 01 08 00 01 01 \
+         13 00 04 09 00 01 00 \
+         12 00 18 01 00 01 02 02 00 01 00 05 00 01 00 06 00 01 02 07 00 01 01 08 00 01 00 \
+         13 00 04 09 00 01 00 \
+         12 00 18 01 00 01 00 02 00 01 00 05 00 01 01 06 00 01 01 07 00 01 00 08 00 01 00 \
+         13 00 04 09 00 01 00 \
+         12 00 18 01 00 01 00 02 00 01 00 05 00 01 01 06 00 01 01 07 00 01 01 08 00 01 01 \
+         13 00 04 09 00 01 00 \
+         10 00 0C 01 00 01 01 02 00 01 00 03 00 01 00",
+        include_str!("../../traces/exclusive.rackrun"),
+    );
+}
+
+/// The letters of the boards, in each table of a block that `run --show` prints.
+fn letters_shown(script: &str) -> Vec<String> {
+    let out = String::from_utf8(printed(&["run", "--show", "-"], script.as_bytes())).unwrap();
+    let mut tables: Vec<String> = Vec::new();
+    for line in out.lines() {
+        match line.split_whitespace().collect::<Vec<_>>()[..] {
+            ["block", _, "plain", "owner", "valid", "letter", ..] => tables.push(String::new()),
+            ["board", _, _, _, _, letter, ..] => tables.last_mut().unwrap().push_str(letter),
+            _ => {}
+        }
+    }
+    tables
+}
+
+#[test]
+fn a_store_turns_the_letter_that_is_shown() {
+    let listing = include_str!("../../traces/listing.trace");
+    assert_eq!(letters_shown(listing), ["II", "II", "EI", "MI", "MI"]);
+    let one_token = "rack 1 board 1 block 1 token\nraise 1 block 0\nforward home block 0\n\
+                     deliver 0\nstore 1 block 0 word 0 = 0\n";
+    assert_eq!(letters_shown(one_token), ["I", "I", "I", "E", "M"]);
+}
+
+#[test]
 fn scripts_and_bytes_run_alike() {
     let lines = "\
 0  rack 2 boards 1 block 3 tokens  done

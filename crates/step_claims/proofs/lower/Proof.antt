@@ -4,7 +4,7 @@ use mathlib.Core.List.{List}
 use Prim.Native.Nat.{ℕ}
 use native.Mathlib.Omega.{arith}
 use borrow.Author.Needs.{needs}
-use Rattle.spec_rack.specs.Claims.{lowered}
+use Rattle.spec_arbiter.specs.Claims.{lowered}
 use Rattle.spec_rack.specs.Rules.{answer, after}
 use Rattle.step_checks.proofs.ClaimsInRecord.{claims-room, claims-form, claims-written}
 use Rattle.step_checks.proofs.CheckFacts.{lower-passed}

@@ -1,6 +1,6 @@
 -- `step_claims::lower_check` meets its contract: the first two lines by one check, the rest is the arbiter's.
 use mathlib.Core.Path.{refl, _∙_}
-use Rattle.spec_rack.specs.Claims.{lowerCheck}
+use Rattle.spec_arbiter.specs.Claims.{lowerCheck}
 use Rattle.step_checks.proofs.CheckLaws.{lower-lines, board-refused, board-on, board-rest}
 use Rattle.step_checks.proofs.RackBounds.{board-claims, verdict-here}
 use borrow.Author.Needs.{needs}

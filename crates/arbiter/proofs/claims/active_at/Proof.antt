@@ -1,5 +1,5 @@
 -- `arbiter::claims::active_at` meets its contract: the lowest-numbered waiting board.
-use Rattle.spec_rack.specs.Boards.{lowest}
+use Rattle.spec_arbiter.specs.Boards.{lowest}
 use mathlib.Core.Path.{ap, _∙_}
 use borrow.Author.Needs.{needs}
 use Rattle.arbiter.proofs.claims.active_at.Statement.{statement}

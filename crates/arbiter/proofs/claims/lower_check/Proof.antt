@@ -1,6 +1,6 @@
 -- `arbiter::claims::lower_check` meets its contract: its test is that of the table.
-use Rattle.spec_rack.proofs.Claims.{lower-pass, lower-refused}
-use Rattle.spec_rack.specs.Boards.{member}
+use Rattle.spec_arbiter.proofs.Claims.{lower-pass, lower-refused}
+use Rattle.spec_arbiter.specs.Boards.{member}
 use mathlib.Core.Path.{sym, ap, _∙_}
 use Prim.Native.Nat.{ℕ}
 use borrow.Author.Needs.{needs}

@@ -2,7 +2,7 @@
 use native.Mathlib.Omega.{arith}
 use Prim.Native.Nat.{ℕ, _-_}
 use mathlib.Core.Path.{ap, _∙_}
-use Rattle.spec_rack.specs.Boards.{subset}
+use Rattle.spec_arbiter.specs.Boards.{subset}
 use Rattle.arbiter.proofs.SetBits.{all-shl, all-lt, all-boards}
 use borrow.Author.Needs.{needs}
 use Rattle.arbiter.proofs.sets.boards_only.Statement.{statement}

@@ -1,5 +1,5 @@
 -- `arbiter::sets::member` meets its contract: the test is the definition.
-use Rattle.spec_rack.specs.Boards.{member, bit}
+use Rattle.spec_arbiter.specs.Boards.{member, bit}
 use borrow.Author.Needs.{needs}
 use Rattle.arbiter.proofs.sets.member.Statement.{statement}
 use Rattle.arbiter.proofs.sets.member.Tie as tie

@@ -1,6 +1,6 @@
 -- `arbiter::sound::only_boards_wait` meets its contract: the waiting set is read, and its bits are tested.
 use mathlib.Core.Path.{ap, _∙_}
-use Rattle.spec_rack.specs.Boards.{boardsOnly}
+use Rattle.spec_arbiter.specs.Boards.{boardsOnly}
 use borrow.Author.Needs.{needs}
 use Rattle.arbiter.proofs.sound.only_boards_wait.Statement.{statement}
 use Rattle.arbiter.proofs.sound.only_boards_wait.Tie as tie

@@ -1,7 +1,7 @@
 -- `step_checks::checks::waiting_set` meets its contract: the claims on a block stand at a place of their own.
 use mathlib.Core.Path.{ap, _∙_}
 use lib.ListN.{getD}
-use Rattle.spec_rack.specs.Claims.{waiting}
+use Rattle.spec_arbiter.specs.Claims.{waiting}
 use Rattle.step_checks.proofs.ClaimsInRecord.{claims-room, claims-read}
 use borrow.Author.Needs.{needs}
 use Rattle.step_checks.proofs.checks.waiting_set.Statement.{statement}

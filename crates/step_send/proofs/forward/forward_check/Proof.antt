@@ -5,7 +5,7 @@ use lib.Dec.{eqb}
 use borrow.Author.Needs.{needs}
 use Rattle.spec_wire.specs.declared.Refusal.the-variants.{Unclaimed, SelfSend, NoToken, MeshFull}
 use Rattle.spec_wire.proofs.RefusalTable.{goes}
-use Rattle.spec_rack.specs.Boards.{lowest}
+use Rattle.spec_arbiter.specs.Boards.{lowest}
 use Rattle.spec_rack.specs.Rules.{check}
 use Rattle.step_checks.proofs.CheckLaws.{held-is, forward-off-rack}
 use Rattle.step_checks.proofs.RackBounds.{block-on, in-cell}

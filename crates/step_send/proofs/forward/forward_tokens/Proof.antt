@@ -2,7 +2,7 @@
 use native.Mathlib.Omega.{arith}
 use mathlib.Core.Path.{ap, _∙_}
 use borrow.Author.Needs.{needs}
-use Rattle.spec_rack.specs.Claims.{active}
+use Rattle.spec_arbiter.specs.Claims.{active}
 use Rattle.spec_rack.specs.Rules.{after}
 use Rattle.step_send.proofs.SentTokens.{forwarded-is}
 use Rattle.step_checks.proofs.ClaimsInRecord.{claims-room, claims-read}

@@ -12,7 +12,7 @@ use lib.Pow.{pow-pos, shr-shr, shr-lt, pow-mono}
 use Rattle.spec_base.specs.Folds.{toℕ, allBelow, implies}
 use Rattle.spec_base.proofs.Tests.{either, differs, same-or-not, lt-or-le, and-l, and-r, and-of, implied, implies-of}
 use Rattle.spec_base.proofs.Folds.{below-at, below-of, count-le, count-mono, count-more, count-none}
-use Rattle.spec_rack.specs.Boards.{boardRoom, bit, member, empty, insert, remove, subset, boardsOnly, firstFrom, lowest, size}
+use Rattle.spec_arbiter.specs.Boards.{boardRoom, bit, member, empty, insert, remove, subset, boardsOnly, firstFrom, lowest, size}
 
 -- ---- bits
 

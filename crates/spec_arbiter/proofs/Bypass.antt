@@ -13,12 +13,12 @@ use Rattle.spec_base.specs.Folds.{toℕ, all, countBelow}
 use Rattle.spec_base.proofs.Tests.{either, same-or-not, lt-or-le, and-l, and-r, and-left, and-right}
 use Rattle.spec_base.proofs.Folds.{count-none, count-all, count-same, count-mono, count-more}
 use Rattle.spec_wire.specs.declared.Check.{Check}
-use Rattle.spec_rack.specs.Boards.{boardRoom, member}
-use Rattle.spec_rack.specs.Claims.{Claims, waiting, barring, raised, lowered}
-use Rattle.spec_rack.specs.Bypass.{Move, mover, moved, settled, claimsAfterMove, claimsAfter, lowersCounted, lowers, boardMoves, only, others, Bypass}
-use Rattle.spec_rack.specs.Bypass.Move.{raise, lower}
-use Rattle.spec_rack.proofs.Boards.{member-empty, insert-keeps, insert-same, remove-other}
-use Rattle.spec_rack.proofs.Claims.{SoundClaims, claims-facts, raised-sound, lowered-sound, raise-elim, lower-elim, raise-pass, raised-waiting, raised-barring, lowered-other, lowered-waiting, lowered-own}
+use Rattle.spec_arbiter.specs.Boards.{boardRoom, member}
+use Rattle.spec_arbiter.specs.Claims.{Claims, waiting, barring, raised, lowered}
+use Rattle.spec_arbiter.specs.Bypass.{Move, mover, moved, settled, claimsAfterMove, claimsAfter, lowersCounted, lowers, boardMoves, only, others, Bypass}
+use Rattle.spec_arbiter.specs.Bypass.Move.{raise, lower}
+use Rattle.spec_arbiter.proofs.Boards.{member-empty, insert-keeps, insert-same, remove-other}
+use Rattle.spec_arbiter.proofs.Claims.{SoundClaims, claims-facts, raised-sound, lowered-sound, raise-elim, lower-elim, raise-pass, raised-waiting, raised-barring, lowered-other, lowered-waiting, lowered-own}
 
 -- ---- moves of boards, from sound claims
 

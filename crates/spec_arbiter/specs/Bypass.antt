@@ -7,8 +7,8 @@ use lib.Dec.{eqb, leb}
 use Rattle.spec_base.specs.Folds.{toℕ, all}
 use Rattle.spec_wire.specs.declared.Check.{Check}
 use Rattle.spec_wire.specs.declared.Check.the-variants.{Pass, Refuse}
-use Rattle.spec_rack.specs.Boards.{boardRoom}
-use Rattle.spec_rack.specs.Claims.{Claims, raiseCheck, raised, lowerCheck, lowered, soundClaims}
+use Rattle.spec_arbiter.specs.Boards.{boardRoom}
+use Rattle.spec_arbiter.specs.Claims.{Claims, raiseCheck, raised, lowerCheck, lowered, soundClaims}
 
 -- a board's raise or lower, accepted or not
 pub data Move : Type 0 where

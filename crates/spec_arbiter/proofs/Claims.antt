@@ -17,9 +17,9 @@ use Rattle.spec_wire.specs.declared.Refusal.the-variants.{Waiting, Barred, NotW
 use Rattle.spec_wire.specs.declared.Check.{Check}
 use Rattle.spec_wire.specs.declared.Check.the-variants.{Pass, Refuse}
 use Rattle.spec_wire.specs.Refusals.{when_refuse_else_}
-use Rattle.spec_rack.specs.Boards.{boardRoom, member, empty, insert, remove, subset, boardsOnly}
-use Rattle.spec_rack.specs.Claims.{Claims, waiting, barring, noClaims, unclaimed, active, raiseCheck, raised, lowerCheck, lowered, soundBarring, soundClaims}
-use Rattle.spec_rack.proofs.Boards.{member-empty, insert-other, remove-same, remove-other, remove-out, subset-refl, subset-empty, subset-insert, subset-remove, boards-lt, boards-at, boards-empty, boards-insert, boards-remove, lowest-lt, lowest-member}
+use Rattle.spec_arbiter.specs.Boards.{boardRoom, member, empty, insert, remove, subset, boardsOnly}
+use Rattle.spec_arbiter.specs.Claims.{Claims, waiting, barring, noClaims, unclaimed, active, raiseCheck, raised, lowerCheck, lowered, soundBarring, soundClaims}
+use Rattle.spec_arbiter.proofs.Boards.{member-empty, insert-other, remove-same, remove-other, remove-out, subset-refl, subset-empty, subset-insert, subset-remove, boards-lt, boards-at, boards-empty, boards-insert, boards-remove, lowest-lt, lowest-member}
 
 -- ---- the checks by cases
 

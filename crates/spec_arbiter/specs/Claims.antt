@@ -9,7 +9,7 @@ use Rattle.spec_wire.specs.declared.Refusal.the-variants.{Waiting, Barred, NotW
 use Rattle.spec_wire.specs.declared.Check.{Check}
 use Rattle.spec_wire.specs.declared.Check.the-variants.{Pass}
 use Rattle.spec_wire.specs.Refusals.{when_refuse_else_}
-use Rattle.spec_rack.specs.Boards.{member, empty, insert, remove, subset, boardsOnly, lowest}
+use Rattle.spec_arbiter.specs.Boards.{member, empty, insert, remove, subset, boardsOnly, lowest}
 
 -- The sets of boards of a block: at place 0 the waiting set, at place i the barring set of board i.
 abbrev pub Claims : Type 0
