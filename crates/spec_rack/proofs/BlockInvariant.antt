@@ -7,15 +7,16 @@ use native.Mathlib.Omega.{arith}
 use borrow.Author.Tests.{eq-eqb, ne-eqb, leb-true}
 use lib.ListN.{length, getD, set, length-set}
 use lib.Dec.{eqb}
-use Rattle.spec_base.specs.Folds.{sum, All}
+use Rattle.spec_base.specs.Folds.{toℕ, sum, All}
 use Rattle.spec_base.proofs.Tests.{and-r}
 use Rattle.spec_base.proofs.Folds.{all-at, all-map, all-set, sum-at, sum-set, at-set}
+use Rattle.spec_rack.specs.declared.Owner.the-variants.{Away}
 use Rattle.spec_rack.specs.declared.Message.{Message}
-use Rattle.spec_rack.specs.Rack.{Cell, Block, Rack, meshLimit, clean, noCell, noBlock, noMessage, blockAt, claimsAt, cellAt, messageAt, owners, held, carried, inFlight, total}
+use Rattle.spec_rack.specs.Rack.{Cell, Block, Rack, meshLimit, present, clean, noCell, noBlock, noMessage, blockAt, claimsAt, cellAt, messageAt, owners, held, carried, inFlight, total}
 use Rattle.spec_rack.specs.Rules.{changed, withCell}
 use Rattle.spec_rack.specs.FlatMemory.{Memory}
 use Rattle.spec_rack.proofs.SoundnessFacts.{SoundCell, SoundMessage, SoundShape, Sound}
-use Rattle.spec_rack.proofs.OwnerLaws.{NotDirty}
+use Rattle.spec_rack.proofs.OwnerLaws.{NotDirty, is-away}
 
 -- the owners of a cell and of a message, as figures beside `held` and `carried`
 
@@ -135,6 +136,21 @@ module _ (r : Rack) (s : Sound r) where
   pub message-few : (i : ℕ) → i < length (r .mesh) → messageAt r i .header .plain ≤ 64
   message-few i h =
       omega (arith, few-tokens, s .blocks (messageAt r i .header .block) (message-sound i h .block) .tokens, in-flight-at r carried i h)
+
+  -- the owner of a block is in one place: where a message has it, no component does
+  pub owner-in-flight : (i : ℕ) → i < length (r .mesh) → present (messageAt r i .header .owner) ≡ true → (c : ℕ) → c ≤ r .boards
+      → cellAt r (messageAt r i .header .block) c .owner ≡ Away
+  owner-in-flight i h here c inN =
+      let b = messageAt r i .header .block in
+      let inB = message-sound i h .block in
+      is-away (cellAt r b c .owner)
+      (omega (
+        arith,
+        ap toℕ here,
+        s .blocks b inB .owners,
+        sum-at cellOwners (blockAt r b .cells) c noCell (cell-in b c inB inN),
+        in-flight-at r messageOwners i h,
+      ))
 
 -- ---- the rack with another block k at b, and another mesh
 

@@ -22,6 +22,11 @@ present-of Away h = absurd (omega arith)
 present-of Dirty h = refl
 present-of Clean h = refl
 
+pub is-away : (w : Owner) → owners w ≤ 0 → w ≡ Away
+is-away Away h = refl
+is-away Dirty h = absurd (omega arith)
+is-away Clean h = absurd (omega arith)
+
 -- an owner that is not dirty, as home's own always is
 abbrev pub NotDirty : Owner → Type 0
 NotDirty Away = Unit {0}

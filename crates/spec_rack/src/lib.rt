@@ -33,9 +33,9 @@ pub enum Lettered {
 // The owner token of a block, as a component or a message has it: away, or there with its mark. A dirty owner's block was stored to since the owner was
 // last at home.
 pub enum Owner {
-    Away,
     Clean,
     Dirty,
+    Away,
 }
 
 // What stands in front of a message's words: its ends, its block, its tokens, and whether the words are data.

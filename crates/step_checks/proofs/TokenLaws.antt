@@ -1,16 +1,34 @@
 -- The state of a cell, less some tokens and with those of a message, as the code makes them.
 use mathlib.Core.Path.{_≡_, refl, sym, ap, _∙_}
-use mathlib.Core.Bool.{Bool, true, false, _&&_, _||_}
+use mathlib.Core.Bool.{Bool, true, false, not, cond, _&&_, _||_}
 use Prim.Native.Nat.{ℕ, _+_, _-_}
-use lib.Dec.{ltb}
+use lib.Dec.{eqb, ltb}
 use Rattle.spec_rack.specs.declared.Owner.{Owner}
 use Rattle.spec_rack.specs.declared.Owner.the-variants.{Away, Dirty, Clean}
 use Rattle.spec_rack.specs.declared.MessageHeader.{MessageHeader}
 use Rattle.spec_rack.specs.declared.Message.{Message}
 use Rattle.spec_rack.specs.Rack.{Cell, present, owners, mayGoBare, supplied}
 use Rattle.spec_rack.specs.Rules.{keptOwner, joinedOwner, withoutTokens, withTokens}
+use Rattle.spec_rack.specs.RecordLayout.{dirty, ownerOf}
 use Rattle.record.specs.declared.TokenState.{TokenState}
 use Rattle.record.specs.Changes.{TokenStateOf}
+
+-- the owner after a message, by flags: a target that gets the owner has none
+pub joined-flags : (own coming : Owner) (target : ℕ) → (present coming ≡ true → own ≡ Away)
+    → ownerOf (present own || present coming) (dirty own || (dirty coming && not (eqb target 0))) ≡ joinedOwner own coming target
+joined-flags Away Away t f = refl
+joined-flags Clean Away t f = refl
+joined-flags Dirty Away t f = refl
+joined-flags Away Clean t f = refl
+joined-flags Away Dirty t f = at-target (eqb t 0)
+  where
+    at-target : (home : Bool) → ownerOf true (not home) ≡ cond home Clean Dirty
+    at-target true = refl
+    at-target false = refl
+joined-flags Clean Clean t f = let e = f refl in cc
+joined-flags Clean Dirty t f = let e = f refl in cc
+joined-flags Dirty Clean t f = let e = f refl in cc
+joined-flags Dirty Dirty t f = let e = f refl in cc
 
 module _ (state : TokenState) (x : Cell) (told : TokenStateOf x state) where
   pub less-is : (p : ℕ) (o : Bool) (owner : Owner) (valid : Bool) (held : ℕ) → owner ≡ keptOwner o (state .owner) → held ≡ state .plain - p + owners owner

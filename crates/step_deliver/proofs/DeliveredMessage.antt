@@ -11,6 +11,7 @@ use Rattle.spec_base.proofs.Tests.{cond-of}
 use Rattle.spec_base.specs.Number.{Bytes}
 use Rattle.spec_wire.specs.declared.Check.the-variants.{Pass}
 use Rattle.spec_wire.specs.declared.Step.the-variants.{Deliver}
+use Rattle.spec_rack.specs.declared.Owner.the-variants.{Away}
 use Rattle.spec_rack.specs.declared.MessageHeader.{MessageHeader}
 use Rattle.spec_rack.specs.declared.Message.{Message}
 use Rattle.spec_rack.specs.declared.Answer.the-variants.{Served}
@@ -20,7 +21,7 @@ use Rattle.spec_rack.specs.Rules.{withCell, withTokens, delivered, check, answe
 use Rattle.spec_rack.specs.RecordLayout.{get, put, messagesIn}
 use Rattle.spec_rack.specs.Entries.{replyToStep}
 use Rattle.spec_rack.proofs.SoundnessFacts.{Sound}
-use Rattle.spec_rack.proofs.BlockInvariant.{message-sound, cell-few, message-few}
+use Rattle.spec_rack.proofs.BlockInvariant.{message-sound, cell-few, message-few, owner-in-flight}
 use Rattle.spec_rack.proofs.LayoutParts.{WordsFit, CellFits, MessageFits}
 use Rattle.spec_rack.proofs.GetPut.{boards-is, blocks-is, mesh-is}
 use Rattle.spec_rack.proofs.SoundRecord.{rack-sound}
@@ -134,6 +135,14 @@ module _ (s : List ℕ) (bytes : Bytes s) (i : ℕ) (h : MessageHeader) (can : C
     pub current : present (h .owner) ≡ true → supplied h ≡ true
     current o =
         ap supplied (can .header) ∙ message-sound (get s) sound i inMesh .current (sym (ap (λ (k : MessageHeader). present (k .owner)) (can .header)) ∙ o)
+
+    -- and the target has no owner where the message has it
+    pub lone : present (h .owner) ≡ true → state .owner ≡ Away
+    lone o =
+        let at-block = ap (λ (k : MessageHeader). cellAt (get s) (k .block) (h .target) .owner) (can .header) in
+        told-before .owner ∙ at-block
+        ∙ owner-in-flight (get s) sound i inMesh (sym (ap (λ (k : MessageHeader). present (k .owner)) (can .header)) ∙ o) (h .target)
+        (omega (arith, boards-is s, can .target .component))
 
     pub tokens-filled : (sum : TokenState) → ((y : Cell) (n : Message) → TokenStateOf y state → h ≡ n .header → TokenStateOf (withTokens y n) sum)
         → (s₂ : List ℕ) → s₂ ≡ put (replaceCell (get s₁) (h .block) (h .target) (withTokenState (cellAt (get s₁) (h .block) (h .target)) sum)) s₁ → s₂ ≡ put (replaceCell (get s) (h .block) (h .target) (withTokens (cellAt (get s) (h .block) (h .target)) (messageAt (get s) i))) s

@@ -6,7 +6,7 @@ use Prim.Native.Nat.{ℕ}
 use native.Mathlib.Omega.{arith}
 use lib.ListN.{length}
 use Rattle.spec_base.specs.Number.{Bytes}
-use Rattle.step_deliver.proofs.DeliveredMessage.{AfterWords, after-copy, without-copy, few, current, tokens-filled}
+use Rattle.step_deliver.proofs.DeliveredMessage.{AfterWords, after-copy, without-copy, few, current, lone, tokens-filled}
 use Rattle.step_deliver.proofs.fill_target.Statement.{statement}
 use Rattle.step_deliver.proofs.fill_target.Tie as tie
 
@@ -38,6 +38,8 @@ with-tokens-requires c κs =
     let st = met .before .before in (
       few (st .args .rec .now) (known met) (st .args .position) (st .args .header) (st .pre) (met .if1 .rec) (words-after met) (c .token-state .result) (c .token-state .ensures),
       current (st .args .rec .now) (known met) (st .args .position) (st .args .header) (st .pre) (met .if1 .rec) (words-after met) (c .token-state .result)
+          (c .token-state .ensures),
+      lone (st .args .rec .now) (known met) (st .args .position) (st .args .header) (st .pre) (met .if1 .rec) (words-after met) (c .token-state .result)
           (c .token-state .ensures),
     )
 
