@@ -796,16 +796,12 @@ pub fn letter(rec: &[u8], component: u32, block: u32) -> u64 {
             return HOME;
         }
         let cell = rec.add(block_offset(block as usize) + component as usize);
-        let (plain, owner, valid) = (*cell.add(PLAIN), *cell.add(OWNER), *cell.add(VALID));
-        let letter = if plain + owner == *rec.add(TOKENS) {
-            b'M'
-        } else if owner == 1 {
-            b'O'
-        } else if valid == 1 {
-            b'S'
-        } else {
-            b'I'
-        };
+        let (plain, owner, valid, dirty) = (*cell.add(PLAIN), *cell.add(OWNER), *cell.add(VALID), *cell.add(DIRTY));
+        // Which letter it is cannot be foretold, so no branch.
+        let whole = if dirty == 1 { b'M' } else { b'E' };
+        let shared = if valid == 1 { b'S' } else { b'I' };
+        let fewer = select_unpredictable(owner == 1, b'O', shared);
+        let letter = select_unpredictable(plain + owner == *rec.add(TOKENS), whole, fewer);
         3 << 56 | u64::from(letter)
     }
 }

@@ -1,4 +1,4 @@
-//! Document 01 a third time, with Nos. 1, 2 and 7 of document 02, from these papers alone: neither the engine, nor the other
+//! Document 01 a third time, with Nos. 1, 2, 4 and 7 of document 02, from these papers alone: neither the engine, nor the other
 //! programs, nor the readings in docs/ were at hand. It keeps typed values and knows nothing of the record's bytes, so buffers (20)
 //! and damaged records (2) are not its matter.
 
@@ -269,16 +269,20 @@ impl Rack {
         self.mesh.push(Message { sender, target, block, plain, owner, data, words });
     }
 
-    /// The state letter of a component and a block as an ASCII byte, or the refusal's number.
+    /// "State letter" with No. 4: the letter of a component and a block as an ASCII byte, or the refusal's number.
     pub fn letter(&self, component: u32, block: u32) -> Result<u8, u32> {
         let (c, b) = self.place(component, block)?;
         refuse(c == 0, 4)?;
         let cell = &self.cells[b][c];
-        Ok(match cell {
-            _ if cell.held() == self.tokens => b'M',
-            _ if cell.owner.is_some() => b'O',
-            _ if cell.valid && cell.plain > 0 => b'S',
-            _ => b'I',
+        // One of the T is the owner, so a board that holds them all has a mark to tell E from M by. No. 4: the mark alone tells
+        // them apart, not the words; with fewer than T it does not matter.
+        let all = cell.held() == self.tokens;
+        Ok(match cell.owner {
+            Some(Mark::Clean) if all => b'E',
+            Some(Mark::Dirty) if all => b'M',
+            Some(_) => b'O',
+            None if cell.valid && cell.plain > 0 => b'S',
+            None => b'I',
         })
     }
 

@@ -1,9 +1,11 @@
-//! What a comparison reached: for each call and kind of step, how often it was accepted and met each refusal; which messages were delivered from
-//! a filled mesh, and whom they served; which steps at home the lists had; what was met of the owner's mark.
+//! What a comparison reached: for each call and kind of step, how often it was accepted and met each refusal; which letters were shown; which
+//! messages were delivered from a filled mesh, and whom they served; which steps at home the lists had; what was met of the owner's mark.
 
 use crate::calls::sound_rack;
+use crate::letters::{self, LETTERS};
 use crate::model::{Answer, Message, Rack, Refusal, Reply, Step, HOME, MESH_LIMIT, WORDS};
-use crate::owners;
+use crate::owners::{self, Look};
+use std::collections::BTreeMap;
 
 pub const KINDS: [&str; 12] =
     ["load", "store", "send", "deliver", "raise", "lower", "forward", "other bytes", "opening", "letter", "reading", "writing"];
@@ -153,7 +155,12 @@ pub struct Coverage {
     damaged_sound: u64,
     pub runs: u64,
     pub run_steps: u64,
-    pub letters: u64,
+    /// Letters shown in all, and those of lists by the rack's N, B and T.
+    shown: [u64; LETTERS.len()],
+    by_rack: BTreeMap<(u32, u32, u32), [u64; LETTERS.len()]>,
+    letters: u64,
+    told: [u64; letters::TOLD.len()],
+    changed: [u64; letters::CHANGED.len()],
     delivered: Delivered,
     at_home: [u64; AT_HOME.len()],
     owners: [u64; owners::MET.len()],
@@ -189,6 +196,20 @@ impl Coverage {
     pub fn count(&mut self, kind: usize, result: u64) {
         let place = if result >> 56 == 1 { result as u32 as usize } else { 0 };
         self.counts[kind][place] += 1;
+        if let (LETTER, Some(letter)) = (kind, letters::place(result)) {
+            self.shown[letter] += 1;
+        }
+    }
+
+    /// Counts a state letter of a list, as the rack gives it.
+    pub fn letter(&mut self, rack: &Rack, component: u32, block: u32, result: u64) {
+        self.count(LETTER, result);
+        self.letters += 1;
+        if let Some(letter) = letters::place(result) {
+            let sizes = (rack.boards.into(), rack.blocks.len() as u32, rack.tokens);
+            self.by_rack.entry(sizes).or_default()[letter] += 1;
+            add_each(&mut self.told, letters::told(rack, component, block, LETTERS[letter]));
+        }
     }
 
     /// Counts a delivery before it is made.
@@ -223,6 +244,11 @@ impl Coverage {
         add_each(&mut self.owners, met);
     }
 
+    /// Counts a step of a list by which a letter changes.
+    pub fn changed(&mut self, look: &Look, step: Step, reply: Reply) {
+        add_each(&mut self.changed, letters::changed(look, step, reply));
+    }
+
     /// Counts a damaged record that had this rack before; sound or not.
     pub fn damaged(&mut self, before: &Rack, record: &[u8]) {
         self.damaged += 1;
@@ -245,7 +271,13 @@ impl Coverage {
         self.damaged_sound += other.damaged_sound;
         self.runs += other.runs;
         self.run_steps += other.run_steps;
+        add_each(&mut self.shown, other.shown);
+        for (&sizes, &shown) in &other.by_rack {
+            add_each(self.by_rack.entry(sizes).or_default(), shown);
+        }
         self.letters += other.letters;
+        add_each(&mut self.told, other.told);
+        add_each(&mut self.changed, other.changed);
         add_each(self.delivered.counts.iter_mut().flatten(), other.delivered.counts.into_iter().flatten());
         add_each(&mut self.delivered.served, other.delivered.served);
         self.delivered.in_flight += other.delivered.in_flight;
@@ -265,6 +297,12 @@ impl Coverage {
         self.delivered.print();
         println!("steps at home: {}", named(&AT_HOME, &self.at_home));
         println!("owners: {}", named(&owners::MET, &self.owners));
+        println!("letters shown: {}", named(&LETTERS, &self.shown));
+        for ((boards, blocks, tokens), shown) in &self.by_rack {
+            println!("{:>12}: {}", format!("{boards}, {blocks}, {tokens}"), named(&LETTERS, shown));
+        }
+        println!("letters of lists: {}", named(&letters::TOLD, &self.told));
+        println!("letters that a step changed: {}", named(&letters::CHANGED, &self.changed));
         for (kind, counts) in KINDS.iter().zip(&self.counts) {
             let refused: Vec<String> =
                 counts.iter().enumerate().skip(1).filter(|(_, &n)| n > 0).map(|(number, n)| format!("r{number} {n}")).collect();
@@ -273,12 +311,28 @@ impl Coverage {
     }
 
     /// What a kind can meet and never met, and what it met and cannot; what was never delivered; what was never tried at home; what was
-    /// never met of the owner's mark.
+    /// never met of the owner's mark; which letters were never shown, in all and by a rack of the lists that can show them.
     pub fn gaps(&self) -> Vec<String> {
         let mut gaps = self.delivered.gaps();
         gaps.extend(missing(&AT_HOME, &self.at_home).map(|step| format!("no {step} at home")));
         gaps.extend(missing(&owners::MET, &self.owners).map(|sort| format!("no {sort}")));
         gaps.extend(missing(&owners::DAMAGED, &self.marks).map(|sort| format!("no damaged record: {sort}")));
+        gaps.extend(missing(&LETTERS, &self.shown).map(|letter| format!("no letter {letter}")));
+        for (sizes, shown) in &self.by_rack {
+            for ((letter, &count), possible) in LETTERS.iter().zip(shown).zip(letters::possible(sizes.2)) {
+                if possible && count == 0 {
+                    gaps.push(format!("{sizes:?} never showed {letter}"));
+                }
+                if !possible && count > 0 {
+                    gaps.push(format!("{sizes:?} showed {letter}, which it cannot"));
+                }
+            }
+        }
+        gaps.extend(missing(&letters::TOLD, &self.told).map(|sort| format!("no {sort}")));
+        gaps.extend(missing(&letters::CHANGED, &self.changed).map(|sort| format!("no {sort}")));
+        if self.shown.iter().sum::<u64>() != self.counts[LETTER][0] {
+            gaps.push("a letter is none of the five".into());
+        }
         // The replies are the model's in both counts: this guards the comparison itself.
         let answered: u64 = self.at_home[..ANSWERED].iter().sum();
         if self.flat_home_loads != answered {

@@ -53,6 +53,7 @@ pub mod other {
                 replies: *mut u64,
                 replies_len: usize,
             ) -> usize;
+            pub fn other_hyl_letter(rec: *const u8, rec_len: usize, component: u32, block: u32) -> u64;
         }
     }
 
@@ -66,5 +67,9 @@ pub mod other {
 
     pub fn run(rec: &mut [u8], list: &[u8], at: &mut usize, replies: &mut [u64]) -> usize {
         unsafe { c::other_hyl_run(rec.as_mut_ptr(), rec.len(), list.as_ptr(), list.len(), at, replies.as_mut_ptr(), replies.len()) }
+    }
+
+    pub fn letter(rec: &[u8], component: u32, block: u32) -> u64 {
+        unsafe { c::other_hyl_letter(rec.as_ptr(), rec.len(), component, block) }
     }
 }

@@ -1,7 +1,7 @@
 //! Document 01's examples: the lines W1 to W11 and the input of rackrun, with the results that it states, a deliver's by document 02's No.
-//! 1. Beside them a forward into a full mesh; delivers that serve home, serve from the middle, and serve components and blocks of two
-//! digits; loads at home by No. 7, with what home still refuses, on a small rack and on a large one; and owners that go home bare by No. 2,
-//! or may not.
+//! 1 and the letter before W2's store by No. 4. Beside them a forward into a full mesh; delivers that serve home, serve from the middle, and
+//! serve components and blocks of two digits; loads at home by No. 7, with what home still refuses, on a small rack and on a large one;
+//! owners that go home bare by No. 2, or may not; and the letters by No. 4.
 
 use crate::calls::unhex;
 use crate::model::{self, Step};
@@ -10,6 +10,8 @@ use crate::model::{self, Step};
 pub enum Line {
     Step(Vec<u8>, &'static str),
     Letter(u32, u32, &'static str),
+    /// The same on a record that lacks its last byte.
+    ShortLetter(u32, u32, &'static str),
     /// The target of the newest message.
     Target(u8),
 }
@@ -36,7 +38,7 @@ pub struct Example {
 }
 
 /// Whom a deliver served, in rackrun's words and as one number: both by hand, so that no program's packing is taken for granted.
-pub const SERVED: [(&str, u64); 9] = [
+pub const SERVED: [(&str, u64); 10] = [
     ("d0.0", 0x0400_0000_0000_0000),
     ("d0.10", 0x0400_000a_0000_0000),
     ("d0.31", 0x0400_001f_0000_0000),
@@ -45,6 +47,7 @@ pub const SERVED: [(&str, u64); 9] = [
     ("d2.1", 0x0402_0001_0000_0000),
     ("d3.0", 0x0403_0000_0000_0000),
     ("d3.10", 0x0403_000a_0000_0000),
+    ("d15.30", 0x040f_001e_0000_0000),
     ("d15.31", 0x040f_001f_0000_0000),
 ];
 
@@ -106,10 +109,15 @@ fn store_at(component: u8, block: u8, word: u8, value: u32, says: &'static str) 
     line(Step::Store { component, block, word, value }, says)
 }
 
+/// The letter of block 0.
+fn shows(component: u32, says: &'static str) -> Line {
+    Line::Letter(component, 0, says)
+}
+
 pub fn all() -> Vec<Example> {
     let rack = |name, lines| Example { name, sizes: (2, 1, 3), opening: "ok", lines };
     let opening = |name, tokens, opening| Example { name, sizes: (2, 1, tokens), opening, lines: Vec::new() };
-    let w2 = || vec![send(0, 0, 1, 2, true, true, "ok"), deliver("d1.0"), store(1, "ok"), Line::Letter(1, 0, "M")];
+    let w2 = || vec![send(0, 0, 1, 2, true, true, "ok"), deliver("d1.0"), shows(1, "E"), store(1, "ok"), shows(1, "M")];
     let mut w3 = w2();
     w3.extend([send(1, 0, 2, 1, false, false, "ok"), deliver("d2.0"), load(2, "r6")]);
     let mut w4 = w2();
@@ -196,7 +204,7 @@ pub fn all() -> Vec<Example> {
                 load(3, "r3"),
                 load_at(0, 1, 0, "r3"),
                 load_at(0, 0, 8, "r3"),
-                Line::Letter(0, 0, "r4"),
+                shows(0, "r4"),
             ],
         ),
         // Home gets back a token of block 31 with words and one of block 10 without.
@@ -233,14 +241,18 @@ pub fn all() -> Vec<Example> {
         },
     ];
     examples.extend(bare_owners());
+    examples.extend(letters());
     examples
+}
+
+/// Board 1 has all tokens of a rack of T = 3, with these lines behind.
+fn lent(lines: Vec<Line>) -> Vec<Line> {
+    [vec![whole(0, 1, "ok"), deliver("d1.0")], lines].into_iter().flatten().collect()
 }
 
 /// Owners that go home without data, and those that may not, by document 02's No. 2.
 fn bare_owners() -> Vec<Example> {
     let rack = |name, lines| Example { name, sizes: (2, 1, 3), opening: "ok", lines };
-    // Board 1 has all tokens, with these lines behind.
-    let lent = |lines: Vec<Line>| [vec![whole(0, 1, "ok"), deliver("d1.0")], lines].into_iter().flatten().collect::<Vec<Line>>();
     // 64 messages of block 1 in flight, board 1 with block 0.
     let full = |lines: Vec<Line>, says| {
         let mut all = vec![send(0, 0, 1, 63, true, true, "ok"), deliver("d1.0")];
@@ -312,5 +324,207 @@ fn bare_owners() -> Vec<Example> {
         ),
         Example { name: BARE_FULL, sizes: (2, 2, 64), opening: "ok", lines: full(Vec::new(), "r13") },
         Example { name: "bare, full and dirty", sizes: (2, 2, 64), opening: "ok", lines: full(vec![store(1, "ok")], "r12") },
+    ]
+}
+
+/// Letters, E and M above all, by document 02's No. 4.
+fn letters() -> Vec<Example> {
+    let rack = |name, lines| Example { name, sizes: (2, 1, 3), opening: "ok", lines };
+    vec![
+        rack(
+            "E, then M, then E again, then O and S, then E",
+            vec![
+                shows(1, "I"),
+                shows(2, "I"),
+                whole(0, 1, "ok"),
+                shows(1, "I"),
+                deliver("d1.0"),
+                shows(1, "E"),
+                shows(2, "I"),
+                store(1, "ok"),
+                shows(1, "M"),
+                whole(1, 0, "ok"),
+                shows(1, "I"),
+                deliver("d0.0"),
+                whole(0, 1, "ok"),
+                deliver("d1.0"),
+                shows(1, "E"),
+                send(1, 0, 2, 1, false, true, "ok"),
+                shows(1, "O"),
+                deliver("d2.0"),
+                shows(1, "O"),
+                shows(2, "S"),
+                send(2, 0, 1, 1, false, false, "ok"),
+                deliver("d1.0"),
+                shows(1, "E"),
+                shows(2, "I"),
+            ],
+        ),
+        rack(
+            "E, then a load, then a store of the value that is there",
+            lent(vec![load(1, "v00000000"), shows(1, "E"), store_at(1, 0, 0, 0, "ok"), shows(1, "M")]),
+        ),
+        Example {
+            name: "E and M with T = 1",
+            sizes: (1, 1, 1),
+            opening: "ok",
+            lines: vec![
+                shows(1, "I"),
+                send(0, 0, 1, 0, true, true, "ok"),
+                shows(1, "I"),
+                deliver("d1.0"),
+                shows(1, "E"),
+                store(1, "ok"),
+                shows(1, "M"),
+                send(1, 0, 0, 0, true, true, "ok"),
+                shows(1, "I"),
+                deliver("d0.0"),
+                send(0, 0, 1, 0, true, true, "ok"),
+                deliver("d1.0"),
+                shows(1, "E"),
+                shows(0, "r4"),
+            ],
+        },
+        rack("I with a token and no data", vec![send(0, 0, 1, 1, false, false, "ok"), deliver("d1.0"), shows(1, "I")]),
+        rack(
+            "I, then O, with all but one",
+            vec![
+                send(0, 0, 1, 1, false, false, "ok"),
+                deliver("d1.0"),
+                shows(1, "I"),
+                send(0, 0, 1, 0, true, true, "ok"),
+                deliver("d1.0"),
+                shows(1, "O"),
+                send(0, 0, 1, 1, false, false, "ok"),
+                deliver("d1.0"),
+                shows(1, "E"),
+            ],
+        ),
+        rack(
+            "S with all but the owner",
+            vec![
+                send(0, 0, 1, 2, false, true, "ok"),
+                deliver("d1.0"),
+                shows(1, "S"),
+                send(0, 0, 1, 0, true, true, "ok"),
+                deliver("d1.0"),
+                shows(1, "E"),
+            ],
+        ),
+        // O does not tell the marks apart; they are there all the same.
+        rack(
+            "O of a dirty owner",
+            lent(vec![
+                store(1, "ok"),
+                send(1, 0, 2, 1, false, true, "ok"),
+                deliver("d2.0"),
+                shows(1, "O"),
+                shows(2, "S"),
+                send(2, 0, 1, 1, false, true, "ok"),
+                deliver("d1.0"),
+                shows(1, "M"),
+                shows(2, "I"),
+            ]),
+        ),
+        rack(
+            "E home bare and back",
+            lent(vec![
+                shows(1, "E"),
+                bare(1, 0, 2, "ok"),
+                shows(1, "I"),
+                deliver("d0.0"),
+                whole(0, 1, "ok"),
+                deliver("d1.0"),
+                shows(1, "E"),
+                bare(1, 0, 0, "ok"),
+                shows(1, "S"),
+                deliver("d0.0"),
+                send(0, 0, 1, 0, true, true, "ok"),
+                deliver("d1.0"),
+                shows(1, "E"),
+                store(1, "ok"),
+                bare(1, 0, 2, "r12"),
+                shows(1, "M"),
+            ]),
+        ),
+        rack(
+            "E over two boards, then M, and M back",
+            lent(vec![
+                whole(1, 2, "ok"),
+                deliver("d2.0"),
+                shows(1, "I"),
+                shows(2, "E"),
+                store(2, "ok"),
+                shows(2, "M"),
+                whole(2, 1, "ok"),
+                deliver("d1.0"),
+                shows(1, "M"),
+                shows(2, "I"),
+            ]),
+        ),
+        rack(
+            "E forwarded",
+            lent(vec![
+                raise(2, "ok"),
+                shows(1, "E"),
+                forward(1, "ok"),
+                shows(1, "I"),
+                deliver("d2.0"),
+                shows(2, "E"),
+                lower(2, "ok"),
+                shows(2, "E"),
+            ]),
+        ),
+        rack("M forwarded", lent(vec![store(1, "ok"), raise(2, "ok"), forward(1, "ok"), shows(1, "I"), deliver("d2.0"), shows(2, "M")])),
+        // 3 before 4, and 2 before both. A number that is cut to a byte, or to two, would be one on the rack.
+        rack(
+            "letters refused",
+            lent(vec![
+                shows(1, "E"),
+                shows(0, "r4"),
+                shows(3, "r3"),
+                Line::Letter(1, 1, "r3"),
+                Line::Letter(0, 1, "r3"),
+                shows(256, "r3"),
+                shows(257, "r3"),
+                shows(258, "r3"),
+                shows(65_537, "r3"),
+                shows(u32::MAX, "r3"),
+                Line::Letter(1, 256, "r3"),
+                Line::Letter(1, 65_536, "r3"),
+                Line::ShortLetter(1, 0, "r2"),
+                Line::ShortLetter(0, 0, "r2"),
+                Line::ShortLetter(3, 0, "r2"),
+                Line::ShortLetter(1, 1, "r2"),
+            ]),
+        ),
+        // The mark is that of this board and this block.
+        Example {
+            name: "E beside M, on the largest rack",
+            sizes: (15, 32, 64),
+            opening: "ok",
+            lines: vec![
+                send(0, 31, 15, 63, true, true, "ok"),
+                send(0, 30, 15, 63, true, true, "ok"),
+                send(0, 0, 1, 63, true, true, "ok"),
+                deliver("d15.31"),
+                deliver("d15.30"),
+                deliver("d1.0"),
+                store_at(15, 30, 7, 1, "ok"),
+                Line::Letter(15, 31, "E"),
+                Line::Letter(15, 30, "M"),
+                Line::Letter(1, 0, "E"),
+                store_at(1, 0, 0, 1, "ok"),
+                Line::Letter(15, 31, "E"),
+                Line::Letter(1, 0, "M"),
+                Line::Letter(1, 31, "I"),
+                Line::Letter(15, 0, "I"),
+                Line::Letter(14, 31, "I"),
+                Line::Letter(15, 29, "I"),
+                Line::Letter(16, 31, "r3"),
+                Line::Letter(15, 32, "r3"),
+                Line::Letter(0, 31, "r4"),
+            ],
+        },
     ]
 }

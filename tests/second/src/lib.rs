@@ -8,6 +8,7 @@ pub mod deliveries;
 pub mod engine;
 pub mod examples;
 pub mod layout;
+pub mod letters;
 pub mod lists;
 pub mod model;
 pub mod numbers;

@@ -39,11 +39,13 @@ pub struct Lists {
     left: usize,
     board: u8,
     block: u8,
+    /// Whether this stretch loads where it would store: what is gathered from home then stays clean.
+    reads: bool,
 }
 
 impl Lists {
     pub fn new(seed: u64) -> Lists {
-        Lists { rng: Rng::new(seed), mood: Mood::Mixed, left: 0, board: 1, block: 0 }
+        Lists { rng: Rng::new(seed), mood: Mood::Mixed, left: 0, board: 1, block: 0, reads: false }
     }
 
     /// The bytes of the next step, now and then torn.
@@ -62,6 +64,7 @@ impl Lists {
             self.left = 10 + self.rng.below(240);
             self.board = 1 + self.rng.below(rack.boards.into()) as u8;
             self.block = self.rng.below(rack.blocks.len()) as u8;
+            self.reads = self.rng.below(3) == 0;
         }
         self.left -= 1;
         self.in_mood(rack, self.mood)
@@ -163,9 +166,12 @@ impl Lists {
         Step::Send { component, block, target, plain, owner, data }
     }
 
-    /// A store, now and then of the value that is there already: it makes the owner dirty all the same.
+    /// A store, now and then of the value that is there already: it makes the owner dirty all the same. A load in a stretch that reads.
     fn store(&mut self, rack: &Rack, component: u8, block: u8) -> Step {
         let word = self.word();
+        if self.reads {
+            return Step::Load { component, block, word };
+        }
         let cell = rack.blocks.get(usize::from(block)).and_then(|b| b.cells.get(usize::from(component)));
         let there = cell.and_then(|cell| cell.words.get(usize::from(word)).copied());
         let value = there.filter(|_| self.rng.percent(25)).unwrap_or_else(|| self.rng.draw() as u32);

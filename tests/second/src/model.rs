@@ -1,4 +1,4 @@
-//! Document 01 a second time, as typed values, with document 02's Nos. 1, 2 and 7: what a rack is, when it is sound, what each step does
+//! Document 01 a second time, as typed values, with document 02's Nos. 1, 2, 4 and 7: what a rack is, when it is sound, what each step does
 //! and which refusal it meets.
 //!
 //! It is written for reading beside the paper, section by section, and knows nothing of the record's bytes (`record` does).
@@ -508,7 +508,8 @@ impl Rack {
 // ---- State letter
 
 impl Rack {
-    /// M with T held; O with the owner and fewer; S with valid plain tokens only; otherwise I. Checks 3 and 4; 2 is asked of the bytes before.
+    /// With T held M or E, by the owner's mark (document 02's No. 4); O with the owner and fewer; S with valid plain tokens only; otherwise I.
+    /// Checks 3 and 4; 2 is asked of the bytes before.
     pub fn letter(&self, component: u32, block: u32) -> Result<char, Refusal> {
         if component > u32::from(self.boards) || block >= self.blocks.len() as u32 {
             return Err(Refusal::OffRack);
@@ -517,14 +518,13 @@ impl Rack {
             return Err(Refusal::Home);
         }
         let cell = self.cell(component as u8, block as u8);
-        Ok(if cell.held() == self.tokens {
-            'M'
-        } else if cell.owner.here() {
-            'O'
-        } else if cell.valid && cell.plain >= 1 {
-            'S'
-        } else {
-            'I'
+        let whole = cell.held() == self.tokens;
+        Ok(match cell.owner {
+            Owner::Dirty if whole => 'M',
+            Owner::Clean if whole => 'E',
+            Owner::Dirty | Owner::Clean => 'O',
+            Owner::Away if cell.valid && cell.plain >= 1 => 'S',
+            Owner::Away => 'I',
         })
     }
 }

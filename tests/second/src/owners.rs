@@ -33,10 +33,12 @@ pub const MET: [&str; 17] = [
 /// What a step is about, as it is before the step.
 pub struct Look {
     /// What the component of the step has of its block; of a delivery, the target.
-    cell: Cell,
+    pub(crate) cell: Cell,
     /// The message that a delivery takes.
-    message: Option<Message>,
+    pub(crate) message: Option<Message>,
     full: bool,
+    /// The rack's T.
+    pub(crate) tokens: u32,
 }
 
 impl Look {
@@ -53,7 +55,7 @@ impl Look {
             }
         };
         let cell = rack.blocks.get(usize::from(block)).and_then(|block| block.cells.get(usize::from(component)));
-        Look { cell: cell.cloned().unwrap_or_default(), message, full: rack.mesh.len() == MESH_LIMIT }
+        Look { cell: cell.cloned().unwrap_or_default(), message, full: rack.mesh.len() == MESH_LIMIT, tokens: rack.tokens }
     }
 }
 
@@ -82,7 +84,7 @@ impl Trail {
     }
 
     fn met(&self, look: &Look, step: Step, reply: Reply) -> [bool; MET.len()] {
-        let Look { cell, message, full } = look;
+        let Look { cell, message, full, .. } = look;
         let (clean, dirty) = (cell.owner == Owner::Clean, cell.owner == Owner::Dirty);
         // a send of the owner without data
         let bare = match step {

@@ -62,7 +62,7 @@ pub fn say(result: u64) -> String {
         (0, 0, 0) => format!("done {number}"),
         (1, 0, 0) => format!("refused {number}"),
         (2, 0, 0) => format!("word {number:08x}"),
-        (3, 0, 0) => format!("letter {}", number as u8 as char),
+        (3, 0, 0) if number < 0x80 => format!("letter {}", number as u8 as char),
         (4, _, _) if number == 0 => format!("served component {component}, block {block}"),
         _ => format!("{result:#018x}"),
     }

@@ -532,14 +532,13 @@ pub fn letter(rec: &[u8], component: u32, block: u32) -> u64 {
     }
     let at = cell_at(component as u8, block as u8);
     let (plain, owner, valid) = (rec[at], rec[at + 1], rec[at + 2]);
-    let letter = if plain + (owner & CLEAN) == rec[2] {
-        b'M'
-    } else if owner != 0 {
-        b'O'
-    } else if valid == 1 {
-        b'S'
-    } else {
-        b'I'
+    let whole = plain + (owner & CLEAN) == rec[2];
+    let letter = match owner {
+        DIRTY if whole => b'M',
+        CLEAN if whole => b'E',
+        CLEAN | DIRTY => b'O',
+        _ if valid == 1 => b'S',
+        _ => b'I',
     };
     3 << 56 | u64::from(letter)
 }

@@ -133,7 +133,7 @@ fn example(name: &str) -> Vec<u8> {
     let mut stated = format!("0 {}\n", example.opening);
     let steps = example.lines.into_iter().filter_map(|line| match line {
         Line::Step(step, says) => Some((step, says)),
-        Line::Letter(..) | Line::Target(_) => None,
+        Line::Letter(..) | Line::ShortLetter(..) | Line::Target(_) => None,
     });
     for (index, (step, says)) in (1..).zip(steps) {
         bytes.extend(step);

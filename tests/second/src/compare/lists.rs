@@ -2,7 +2,7 @@
 
 use super::{filled, Harness, Sizes, RACKS, SPARE};
 use second::calls::{byte_difference, hex, Layout, ENGINES, LAYOUTS, RECORD};
-use second::coverage::{kind_of, Coverage, LETTER};
+use second::coverage::{kind_of, Coverage};
 use second::lists::Lists;
 use second::model::{self, Answer, Cell, FlatMemory, Owner, Rack, Step, HOME};
 use second::owners::{Look, Trail};
@@ -127,6 +127,7 @@ impl List {
         if let (Ok(step), Some(look)) = (read, look) {
             coverage.at_home(&self.rack, step, reply);
             coverage.owners(self.trail.step(&look, step, reply));
+            coverage.changed(&look, step, reply);
             reply.map_or(Ok(()), |answer| self.demand(step, answer, &before, coverage))?;
             reply.ok().and(block).map_or(Ok(()), |block| self.home_kept(block))?;
         }
@@ -264,8 +265,7 @@ impl List {
 
     fn same_letter(&self, component: u32, block: u32, coverage: &mut Coverage) -> Result<(), String> {
         let want = reply::of_letter(self.rack.letter(component, block));
-        coverage.letters += 1;
-        coverage.count(LETTER, want);
+        coverage.letter(&self.rack, component, block, want);
         if reply::of_blind_letter(self.blind.letter(component, block)) != want {
             return Err(self.case(&format!("blind: another letter than the model's, component {component}, block {block}")));
         }

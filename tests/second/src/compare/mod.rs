@@ -10,6 +10,7 @@ use second::rng::Rng;
 mod damage;
 mod deliveries;
 mod examples;
+mod letters;
 mod lists;
 mod openings;
 pub mod replay;

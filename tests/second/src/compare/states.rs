@@ -18,7 +18,7 @@ impl Harness {
         Ok(())
     }
 
-    /// Every step on every state that is reached from the opening, with stores of two values to word 0.
+    /// Every step on every state that is reached from the opening, with stores of two values to word 0; and every letter.
     fn states(&mut self, (boards, blocks, tokens): Sizes) -> Result<usize, String> {
         let fresh = Rack::open(boards, blocks, tokens).expect("sizes in range");
         let mut buffer = filled(self.seed, record::length(blocks as usize) + SPARE);
@@ -26,6 +26,11 @@ impl Harness {
         let mut open = vec![fresh];
         while let Some(rack) = open.pop() {
             record::encode(&rack, &mut buffer);
+            for component in 0..=boards + 1 {
+                for block in 0..=blocks {
+                    self.call(&buffer, &Call::Letter(component, block))?;
+                }
+            }
             for step in all_steps(&rack) {
                 let result = self.call(&buffer, &Call::Step(&model::write(step)))?;
                 if result >> 56 != 1 && !matches!(step, Step::Load { .. }) {

@@ -10,12 +10,15 @@ pub struct Engine {
     pub layout: &'static Layout,
     pub step: fn(&mut [u8], &[u8]) -> u64,
     pub run: fn(&mut [u8], &[u8], &mut usize, &mut [u64]) -> usize,
+    pub letter: fn(&[u8], u32, u32) -> u64,
     /// Whether an accepted deliver says whom it served. In an archive from before it gives done.
     pub serves: bool,
     /// Whether a load at home is as one at a board. In an archive from before it gives 4.
     pub reads_home: bool,
     /// Whether a clean owner may go home bare. In an archive from before it gives 12, and a record has no marks.
     pub takes_bare: bool,
+    /// Whether a board with all tokens shows E while the owner is clean. In an archive from before it shows M.
+    pub shows_e: bool,
 }
 
 impl Engine {
@@ -24,6 +27,7 @@ impl Engine {
         length: u64,
         step: fn(&mut [u8], &[u8]) -> u64,
         run: fn(&mut [u8], &[u8], &mut usize, &mut [u64]) -> usize,
+        letter: fn(&[u8], u32, u32) -> u64,
     ) -> Engine {
         let layout = layout_of(length);
         let given = |rack: &Rack, asked: Step| step(&mut encoded(rack, layout), &model::write(asked));
@@ -33,9 +37,10 @@ impl Engine {
         rack.step(Step::Send { component: HOME, block: 0, target: 1, plain: 0, owner: true, data: true }).expect("home has the owner");
         let serves = given(&rack, Step::Deliver { position: 0 }) != reply::done(0);
         rack.step(Step::Deliver { position: 0 }).expect("the owner is in flight");
+        let shows_e = letter(&encoded(&rack, layout), 1, 0) != reply::letter('M');
         let bare = Step::Send { component: 1, block: 0, target: HOME, plain: 0, owner: true, data: false };
         let takes_bare = !refuses(&rack, bare, Refusal::BareOwner);
-        Engine { name, layout, step, run, serves, reads_home, takes_bare }
+        Engine { name, layout, step, run, letter, serves, reads_home, takes_bare, shows_e }
     }
 
     /// The record of a rack in its bytes. For an archive from before there were marks, a record with one is not sound: every owner is clean
@@ -55,11 +60,12 @@ impl Engine {
     /// Whether its replies are these, or what an archive from before gives in their place: done where a deliver says whom it served, and 4
     /// for a load at home. A word, 5 or 6 does not tell where a load was, nor 5 and 6 a load from a forward or a send: 4 is taken for any
     /// of them. Where it gives 12 for an owner that goes home bare, its rack is another one from then on, and the replies behind are not
-    /// compared.
+    /// compared. It shows M for E.
     pub fn agrees(&self, replies: &[u64], want: &[u64]) -> bool {
         let load = |reply: u64| reply >> 56 == 2 || [Refusal::NoToken, Refusal::NoData].map(reply::refused).contains(&reply);
         let same = |reply: u64, want: u64| match want >> 56 {
             4 if !self.serves => reply == reply::done(0),
+            3 if !self.shows_e && want == reply::letter('E') => reply == reply::letter('M'),
             _ => reply == want || !self.reads_home && load(want) && reply == reply::refused(Refusal::Home),
         };
         let parts = |(&reply, &want)| !self.takes_bare && want == reply::done(0) && reply == reply::refused(Refusal::BareOwner);
@@ -70,14 +76,14 @@ impl Engine {
 
 /// The engine first; where build.rs was told of another archive, that is the second.
 pub fn all() -> Vec<Engine> {
-    let mut all = vec![Engine::new("engine", engine::record_len(1), engine::step, engine::run)];
+    let mut all = vec![Engine::new("engine", engine::record_len(1), engine::step, engine::run, engine::letter)];
     #[cfg(other)]
     {
         use second::engine::other;
-        all.push(Engine::new("other engine", other::record_len(1), other::step, other::run));
+        all.push(Engine::new("other engine", other::record_len(1), other::step, other::run, other::letter));
     }
-    all.push(Engine::new("tuned", tuned::record_len(1), tuned::step, tuned::run));
-    all.push(Engine::new("best", best::record_len(1), best::step, best::run));
+    all.push(Engine::new("tuned", tuned::record_len(1), tuned::step, tuned::run, tuned::letter));
+    all.push(Engine::new("best", best::record_len(1), best::step, best::run, best::letter));
     for engine in all.iter().filter(|engine| !engine.serves) {
         println!("For an accepted deliver {} gives done, where the others say whom it served.", engine.name);
         println!();
@@ -91,6 +97,10 @@ pub fn all() -> Vec<Engine> {
             "For an owner that goes home bare {} gives 12, where the others take it; what it does behind that is not the same.",
             engine.name
         );
+        println!();
+    }
+    for engine in all.iter().filter(|engine| !engine.shows_e) {
+        println!("For a board with all tokens and a clean owner {} shows M, where the others show E.", engine.name);
         println!();
     }
     all

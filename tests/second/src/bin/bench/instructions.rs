@@ -61,7 +61,7 @@ impl Counter {
 fn measure(counter: &mut Counter, row: &Row, call: Call, engine: &Engine) -> Result<f64, String> {
     let mut records = Records::new(row, engine);
     let (order, runs) = (row.order(STEPS), row.runs());
-    let mut replies = vec![0; order.len()];
+    let mut replies = vec![0; row.steps().min(STEPS)];
     let total = counter.count(|| match call {
         Call::Step => {
             for (part, replies) in order.chunks(row.steps_of_part()).zip(replies.chunks_mut(row.steps_of_part())) {
@@ -82,8 +82,13 @@ fn measure(counter: &mut Counter, row: &Row, call: Call, engine: &Engine) -> Res
                 }
             }
         }
+        Call::Letter => {
+            for (&(number, component, block), reply) in row.asked.iter().zip(&mut replies) {
+                *reply = (engine.letter)(black_box(&records.used[number]), black_box(component), black_box(block));
+            }
+        }
     })?;
-    Ok(total as f64 / order.len() as f64)
+    Ok(total as f64 / replies.len() as f64)
 }
 
 #[inline(never)]
@@ -98,6 +103,12 @@ fn no_run(rec: &mut [u8], list: &[u8], at: &mut usize, replies: &mut [u64]) -> u
     0
 }
 
+#[inline(never)]
+fn no_letter(rec: &[u8], component: u32, block: u32) -> u64 {
+    black_box((rec, component, block));
+    0
+}
+
 pub fn table(out: &str) -> Result<(), String> {
     let engines = engines::all();
     let mut counter = Counter { out: out.to_string(), dumps: 0 };
@@ -107,8 +118,8 @@ pub fn table(out: &str) -> Result<(), String> {
     println!("| N, B, T | state | in flight | copies | barred | accepted | call | {} |", names.join(" | "));
     println!("{}", "|---".repeat(7 + names.len()) + "|");
     for row in rows::all(STEPS) {
-        for call in [Call::Step, Call::Run] {
-            let nothing = Engine { name: "nothing", step: no_step, run: no_run, ..engines[0] };
+        for &call in row.calls() {
+            let nothing = Engine { name: "nothing", step: no_step, run: no_run, letter: no_letter, ..engines[0] };
             let loops = measure(&mut counter, &row, call, &nothing)?;
             let mut counts = Vec::new();
             for engine in &engines {

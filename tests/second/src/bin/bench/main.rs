@@ -1,6 +1,6 @@
 //! The benchmark: the proved engine beside two engines in Rust and the model, on the same seeded lists, as a table in Markdown.
 //!
-//! `hyl_step` decides soundness at every step, `hyl_run` once for the list; so do all of them. `tuned` has a layout of its own, `best` the engine's.
+//! `hyl_step` and `hyl_letter` decide soundness at every call, `hyl_run` once for the list; so do all of them. `tuned` has a layout of its own, `best` the engine's.
 
 mod engines;
 mod instructions;
@@ -13,6 +13,7 @@ use std::process::ExitCode;
 enum Call {
     Step,
     Run,
+    Letter,
 }
 
 impl Call {
@@ -20,6 +21,7 @@ impl Call {
         match self {
             Call::Step => "hyl_step",
             Call::Run => "hyl_run",
+            Call::Letter => "hyl_letter",
         }
     }
 }

@@ -1,6 +1,7 @@
-//! The rows of the benchmark: racks in some state, with seeded lists that keep them in such a state; deliveries alone; loads alone; and
-//! blocks that go to a board and come back, with data or bare.
+//! The rows of the benchmark: racks in some state, with seeded lists that keep them in such a state; deliveries alone; loads alone; blocks
+//! that go to a board and come back, with data or bare; and state letters.
 
+use crate::Call;
 use second::lists::{Lists, Mood};
 use second::model::{self, Cell, Rack, Step, HOME, MESH_LIMIT, WORDS};
 use second::rng::Rng;
@@ -41,6 +42,8 @@ pub struct Row {
     /// They are served in turn: one step at a time by `hyl_step`, `turn` steps by `hyl_run`.
     pub works: Vec<Work>,
     pub turn: usize,
+    /// In place of steps: the letters that are asked, by the record's number, component and block.
+    pub asked: Vec<(usize, u32, u32)>,
     /// Whether the records are as at first again before each turn.
     pub renewed: bool,
     pub accepted: usize,
@@ -79,12 +82,25 @@ pub fn all(steps: usize) -> Vec<Row> {
         rows.push(returns("gives back with data", sizes, true, steps));
         rows.push(returns("gives back bare", sizes, false, steps));
     }
+    rows.push(letters("letters of all boards", (2, 1, 3), 128, steps));
+    rows.push(letters("letters of all boards", (15, 32, 64), 32, steps));
     rows
 }
 
 impl Row {
     fn new(name: &'static str, sizes: Sizes, turn: usize) -> Row {
-        Row { name, sizes, works: Vec::new(), turn, renewed: false, accepted: 0, in_flight: 0.0, copies: 0.0, barred: 0.0 }
+        Row {
+            name,
+            sizes,
+            works: Vec::new(),
+            turn,
+            asked: Vec::new(),
+            renewed: false,
+            accepted: 0,
+            in_flight: 0.0,
+            copies: 0.0,
+            barred: 0.0,
+        }
     }
 
     /// Counts the valid copies of each block, and whether a board is barred in it.
@@ -102,9 +118,18 @@ impl Row {
         self.barred /= looks as f64;
     }
 
-    /// How many steps it has in all.
+    /// The calls that it is measured with.
+    pub fn calls(&self) -> &'static [Call] {
+        if self.asked.is_empty() {
+            &[Call::Step, Call::Run]
+        } else {
+            &[Call::Letter]
+        }
+    }
+
+    /// How many steps it has in all, or letters.
     pub fn steps(&self) -> usize {
-        self.works.iter().map(|work| work.cuts.len()).sum()
+        self.works.iter().map(|work| work.cuts.len()).sum::<usize>() + self.asked.len()
     }
 
     /// How many single steps are given before the records are renewed.
@@ -253,6 +278,52 @@ fn returns(name: &'static str, sizes: Sizes, data: bool, steps: usize) -> Row {
     row.accepted = row.steps();
     row.average(looks);
     row
+}
+
+/// State letters alone: those of all boards and blocks of a record, as a screen asks for them, then of any other.
+fn letters(name: &'static str, sizes: Sizes, records: usize, steps: usize) -> Row {
+    let (boards, blocks, _) = sizes;
+    let mut rng = Rng::new(0);
+    let mut row = Row::new(name, sizes, steps);
+    for _ in 0..records {
+        let rack = in_all_states(&mut rng, sizes);
+        row.look(&rack);
+        row.works.push(Work::new(rack));
+    }
+    while row.asked.len() < steps {
+        let number = rng.below(records);
+        row.asked.extend((0..blocks).flat_map(|block| (1..=boards).map(move |component| (number, component, block))));
+    }
+    row.asked.truncate(steps);
+    row.accepted = row.steps();
+    row.average(records * blocks as usize);
+    row
+}
+
+/// One block in five is at home, the others are each at a board. Half of these boards have stored to it, and half have given a token or two
+/// with data to others: so there is E, M, O and S.
+fn in_all_states(rng: &mut Rng, sizes: Sizes) -> Rack {
+    let (boards, blocks, tokens) = sizes;
+    let mut rack = opened(sizes);
+    let mut step = |step: Step| rack.step(step).expect("the sender has the tokens");
+    for block in 0..blocks as u8 {
+        if rng.below(5) == 0 {
+            continue;
+        }
+        let component = 1 + rng.below(boards as usize) as u8;
+        step(Step::Send { component: HOME, block, target: component, plain: tokens as u8 - 1, owner: true, data: true });
+        step(Step::Deliver { position: 0 });
+        if rng.percent(50) {
+            step(Step::Store { component, block, word: 0, value: rng.draw() as u32 });
+        }
+        for _ in 0..rng.pick(&[0, 0, 1, 2]) {
+            let other = 1 + rng.below(boards as usize - 1) as u8;
+            let target = other + u8::from(other >= component);
+            step(Step::Send { component, block, target, plain: 1, owner: false, data: true });
+            step(Step::Deliver { position: 0 });
+        }
+    }
+    rack
 }
 
 /// Each block goes to a board, which stores words of its own. Then so many messages with data go from such boards to others, one token with each.

@@ -60,6 +60,14 @@ fn in_runs(row: &Row, runs: &[(usize, usize, usize)], records: &mut Records, eng
     Pass { took, steps }
 }
 
+fn letters(asked: &[(usize, u32, u32)], records: &Records, engine: &Engine, replies: &mut [u64]) -> Pass {
+    let start = Instant::now();
+    for (&(number, component, block), reply) in asked.iter().zip(replies) {
+        *reply = (engine.letter)(black_box(&records.used[number]), black_box(component), black_box(block));
+    }
+    Pass { took: start.elapsed(), steps: asked.len() }
+}
+
 /// The model on its values; it is spared the decoding.
 fn by_model(order: &[(usize, &[u8])], row: &Row, asks: bool, replies: &mut [u64]) -> Pass {
     let mut took = Duration::ZERO;
@@ -79,6 +87,16 @@ fn by_model(order: &[(usize, &[u8])], row: &Row, asks: bool, replies: &mut [u64]
         took += start.elapsed();
     }
     Pass { took, steps: order.len() }
+}
+
+fn letters_by_model(asked: &[(usize, u32, u32)], row: &Row, replies: &mut [u64]) -> Pass {
+    let start = Instant::now();
+    for (&(number, component, block), reply) in asked.iter().zip(replies) {
+        let rack = black_box(&row.works[number].rack);
+        let given = if rack.sound() { rack.letter(component, block) } else { Err(model::Refusal::Unsound) };
+        *reply = reply::of_letter(given);
+    }
+    Pass { took: start.elapsed(), steps: asked.len() }
 }
 
 /// Passes until the share of time is used: nanoseconds a step.
@@ -101,10 +119,10 @@ fn median(values: impl Iterator<Item = f64>) -> f64 {
 /// By round: nanoseconds a step of each engine, then of the model.
 fn measure(row: &Row, call: Call, engines: &[Engine]) -> Vec<Vec<f64>> {
     let (order, runs) = (row.order(STEPS), row.runs());
-    let model_order = match call {
-        _ if row.renewed => &order[..RENEWED_MODEL_STEPS],
-        Call::Step => &order[..MODEL_STEPS],
-        Call::Run => &order[..],
+    let model_steps = match call {
+        _ if row.renewed => RENEWED_MODEL_STEPS,
+        Call::Step | Call::Letter => MODEL_STEPS,
+        Call::Run => order.len(),
     };
     let mut replies = vec![0; row.steps()];
     let mut records: Vec<Records> = engines.iter().map(|engine| Records::new(row, engine)).collect();
@@ -116,14 +134,18 @@ fn measure(row: &Row, call: Call, engines: &[Engine]) -> Vec<Vec<f64>> {
             nanos.push(share(|| match call {
                 Call::Step => singly(row, &order, records, engine, &mut replies),
                 Call::Run => in_runs(row, &runs, records, engine, &mut replies),
+                Call::Letter => letters(&row.asked, records, engine, &mut replies),
             }));
             let first = first.get_or_insert_with(|| replies.clone());
             assert!(engine.agrees(&replies, first), "{} gives other replies", engine.name);
         }
-        let mut pass = || by_model(model_order, row, call == Call::Step, &mut replies);
+        let mut pass = || match call {
+            Call::Letter => letters_by_model(&row.asked[..model_steps], row, &mut replies),
+            _ => by_model(&order[..model_steps], row, call == Call::Step, &mut replies),
+        };
         nanos.push(if row.renewed { pass().nanos() } else { share(pass) });
-        if call == Call::Step || row.works.len() == 1 {
-            let same = first.as_ref().is_some_and(|first| first[..model_order.len()] == replies[..model_order.len()]);
+        if call != Call::Run || row.works.len() == 1 {
+            let same = first.as_ref().is_some_and(|first| first[..model_steps] == replies[..model_steps]);
             assert!(same, "the model gives other replies");
         }
         rounds.push(nanos);
@@ -142,7 +164,7 @@ pub fn table() {
     println!("| N, B, T | state | in flight | copies | barred | accepted | call | {} |{ratios}", names.join(" | "));
     println!("{}", "|---".repeat(7 + names.len() + engines.len() - 1) + "|");
     for row in rows::all(STEPS) {
-        for call in [Call::Step, Call::Run] {
+        for &call in row.calls() {
             let rounds = measure(&row, call, &engines);
             let nanos = (0..names.len()).map(|i| median(rounds.iter().map(|round| round[i])));
             let speeds: Vec<String> = nanos.map(|nanos| format!("{:.2} ({nanos:.0})", 1e3 / nanos)).collect();
