@@ -26,7 +26,7 @@ const DELIVER: [&str; 9] = [
     "record_mesh::header_at",
     COPY_WORDS,
     COPY_BYTES,
-    "step_checks::tokens::with_tokens",
+    "step_tokens::with_tokens",
     "record::cells::set_token_state",
     "record_mesh::remove",
 ];

@@ -16,11 +16,11 @@ pub fn load(rec: &[u8], component: u8, block: u8, word: u8) -> Reply
     requires { ⌜ SoundRecord (now rec) ⌝ }
     ensures { λ r. ⌜ r ≡ replyToStep (now (rec .entry)) (Step.Load component block word) ⌝ }
 {
-    if step_checks::checks::off_rack_word(rec, component, block, word) {
+    if step_checks::off_rack_word(rec, component, block, word) {
         return Reply::Refused(Refusal::OffRack);
     }
     let state = record::cells::token_state(rec, block, component);
-    if step_checks::tokens::held(state) == 0 {
+    if step_tokens::held(state) == 0 {
         return Reply::Refused(Refusal::NoToken);
     }
     if !state.valid {
@@ -33,14 +33,14 @@ fn store_check(rec: &[u8], component: u8, block: u8, word: u8, value: u32) -> Ch
     requires { ⌜ InLayout (now rec) ⌝ }
     ensures { λ r. ⌜ r ≡ check (get (now (rec .entry))) (Step.Store component block word value) ⌝ }
 {
-    if step_checks::checks::off_rack_word(rec, component, block, word) {
+    if step_checks::off_rack_word(rec, component, block, word) {
         return Check::Refuse(Refusal::OffRack);
     }
-    if step_checks::checks::at_home(component) {
+    if step_checks::at_home(component) {
         return Check::Refuse(Refusal::Home);
     }
     let state = record::cells::token_state(rec, block, component);
-    if step_checks::tokens::held(state) < wide(rec[TOKEN_COUNT_OFFSET]) {
+    if step_tokens::held(state) < wide(rec[TOKEN_COUNT_OFFSET]) {
         return Check::Refuse(Refusal::Short);
     }
     Check::Pass
@@ -52,9 +52,9 @@ pub fn store(rec: &mut [u8], component: u8, block: u8, word: u8, value: u32) -> 
     ensures buffer { λ r. ⌜ now (rec .exit) ≡ bufferAfter (now (rec .entry)) (Step.Store component block word value) ⌝ }
 {
     let verdict = store_check(rec, component, block, word, value);
-    if step_checks::checks::is_pass(verdict) {
+    if step_checks::is_pass(verdict) {
         record::cells::set_word(rec, block, component, word, value);
         return Reply::Accepted(Answer::Done);
     }
-    step_checks::checks::reply_of(verdict)
+    step_checks::reply_of(verdict)
 }

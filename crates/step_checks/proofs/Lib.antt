@@ -1,4 +1,3 @@
-pub mod TokenLaws
 pub mod ClaimsInRecord
 pub mod StepOutcome
 pub mod RackBounds

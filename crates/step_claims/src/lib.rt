@@ -14,22 +14,22 @@ fn raise_check(rec: &[u8], component: u8, block: u8) -> Check
     requires { ⌜ InLayout (now rec) ⌝ }
     ensures { λ r. ⌜ r ≡ check (get (now (rec .entry))) (Step.Raise component block) ⌝ }
 {
-    let first = step_checks::checks::board_check(rec, component, block);
-    if !step_checks::checks::is_pass(first) {
+    let first = step_checks::board_check(rec, component, block);
+    if !step_checks::is_pass(first) {
         return first;
     }
-    arbiter::claims::raise_check(rec, step_checks::checks::claims_offset(block), component)
+    arbiter::claims::raise_check(rec, step_checks::claims_offset(block), component)
 }
 
 fn lower_check(rec: &[u8], component: u8, block: u8) -> Check
     requires { ⌜ InLayout (now rec) ⌝ }
     ensures { λ r. ⌜ r ≡ check (get (now (rec .entry))) (Step.Lower component block) ⌝ }
 {
-    let first = step_checks::checks::board_check(rec, component, block);
-    if !step_checks::checks::is_pass(first) {
+    let first = step_checks::board_check(rec, component, block);
+    if !step_checks::is_pass(first) {
         return first;
     }
-    arbiter::claims::lower_check(rec, step_checks::checks::claims_offset(block), component)
+    arbiter::claims::lower_check(rec, step_checks::claims_offset(block), component)
 }
 
 pub fn raise(rec: &mut [u8], component: u8, block: u8) -> Reply
@@ -38,11 +38,11 @@ pub fn raise(rec: &mut [u8], component: u8, block: u8) -> Reply
     ensures buffer { λ r. ⌜ now (rec .exit) ≡ bufferAfter (now (rec .entry)) (Step.Raise component block) ⌝ }
 {
     let verdict = raise_check(rec, component, block);
-    if step_checks::checks::is_pass(verdict) {
-        arbiter::change::raise_at(rec, step_checks::checks::claims_offset(block), component);
+    if step_checks::is_pass(verdict) {
+        arbiter::change::raise_at(rec, step_checks::claims_offset(block), component);
         return Reply::Accepted(Answer::Done);
     }
-    step_checks::checks::reply_of(verdict)
+    step_checks::reply_of(verdict)
 }
 
 pub fn lower(rec: &mut [u8], component: u8, block: u8) -> Reply
@@ -51,15 +51,10 @@ pub fn lower(rec: &mut [u8], component: u8, block: u8) -> Reply
     ensures buffer { λ r. ⌜ now (rec .exit) ≡ bufferAfter (now (rec .entry)) (Step.Lower component block) ⌝ }
 {
     let verdict = lower_check(rec, component, block);
-    if step_checks::checks::is_pass(verdict) {
+    if step_checks::is_pass(verdict) {
         let boards = rec[BOARD_COUNT_OFFSET];
-        arbiter::change::lower_at(
-            rec,
-            step_checks::checks::claims_offset(block),
-            boards,
-            component,
-        );
+        arbiter::change::lower_at(rec, step_checks::claims_offset(block), boards, component);
         return Reply::Accepted(Answer::Done);
     }
-    step_checks::checks::reply_of(verdict)
+    step_checks::reply_of(verdict)
 }

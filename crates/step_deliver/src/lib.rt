@@ -25,10 +25,7 @@ fn fill_target(rec: &mut [u8], position: u8, header: MessageHeader)
     if header.data {
         record_mesh::copy_words(rec, position, block, target);
     }
-    let state = step_checks::tokens::with_tokens(
-        record::cells::token_state(rec, block, target),
-        header,
-    );
+    let state = step_tokens::with_tokens(record::cells::token_state(rec, block, target), header);
     record::cells::set_token_state(rec, block, target, state);
 }
 

@@ -13,22 +13,20 @@ use spec_rack::Reply;
 use spec_wire::Check;
 use spec_wire::Refusal;
 use spec_wire::Step;
-use step_checks::checks;
-use step_checks::tokens;
 
 fn forward_check(rec: &[u8], component: u8, block: u8) -> Check
     requires { ⌜ InLayout (now rec) ⌝ }
     ensures { λ r. ⌜ r ≡ check (get (now (rec .entry))) (Step.Forward component block) ⌝ }
 {
-    if checks::off_rack(rec, component, block) {
+    if step_checks::off_rack(rec, component, block) {
         return Check::Refuse(Refusal::OffRack);
     }
-    let boards = checks::waiting_set(rec, block);
-    let held = tokens::held(record::cells::token_state(rec, block, component));
-    let full = checks::line(checks::mesh_full(rec), Refusal::MeshFull, Check::Pass);
-    let none = checks::line(held == 0, Refusal::NoToken, full);
-    let apart = checks::line(component == sets::lowest(boards), Refusal::SelfSend, none);
-    checks::line(boards == 0, Refusal::Unclaimed, apart)
+    let boards = step_checks::waiting_set(rec, block);
+    let held = step_tokens::held(record::cells::token_state(rec, block, component));
+    let full = step_checks::line(step_checks::mesh_full(rec), Refusal::MeshFull, Check::Pass);
+    let none = step_checks::line(held == 0, Refusal::NoToken, full);
+    let apart = step_checks::line(component == sets::lowest(boards), Refusal::SelfSend, none);
+    step_checks::line(boards == 0, Refusal::Unclaimed, apart)
 }
 
 // Sends all that is held to the active board, with data where it is valid.
@@ -36,7 +34,7 @@ fn forward_tokens(rec: &mut [u8], component: u8, block: u8)
     requires { ⌜ SoundRecord (now rec) × (check (get (now rec)) (Step.Forward component block) ≡ Pass) ⌝ }
     ensures { λ r. ⌜ now (rec .exit) ≡ put (after (get (now (rec .entry))) (Step.Forward component block)) (now (rec .entry)) ⌝ }
 {
-    let target = arbiter::claims::active_at(rec, checks::claims_offset(block));
+    let target = arbiter::claims::active_at(rec, step_checks::claims_offset(block));
     let state = record::cells::token_state(rec, block, component);
     let owner = state.owner;
     let has_owner = is_present(owner);
@@ -58,9 +56,9 @@ pub fn forward(rec: &mut [u8], component: u8, block: u8) -> Reply
     ensures buffer { λ r. ⌜ now (rec .exit) ≡ bufferAfter (now (rec .entry)) (Step.Forward component block) ⌝ }
 {
     let verdict = forward_check(rec, component, block);
-    if checks::is_pass(verdict) {
+    if step_checks::is_pass(verdict) {
         forward_tokens(rec, component, block);
         return Reply::Accepted(Answer::Done);
     }
-    checks::reply_of(verdict)
+    step_checks::reply_of(verdict)
 }

@@ -22,8 +22,6 @@ use spec_rack::Reply;
 use spec_wire::Check;
 use spec_wire::Refusal;
 use spec_wire::Step;
-use step_checks::checks;
-use step_checks::tokens;
 
 // What a send asks of the sender's state and the mesh, once its ends and its block are known and free.
 fn token_lines(
@@ -37,18 +35,18 @@ fn token_lines(
     requires { ⌜ InLayout (now rec) ⌝ }
     ensures { λ r. ⌜ r ≡ tokenLines state target plain owner «data» (meshFull (get (now (rec .entry)))) ⌝ }
 {
-    let full = checks::line(checks::mesh_full(rec), Refusal::MeshFull, Check::Pass);
-    let stale = checks::line(both(data, !state.valid), Refusal::NoData, full);
+    let full = step_checks::line(step_checks::mesh_full(rec), Refusal::MeshFull, Check::Pass);
+    let stale = step_checks::line(both(data, !state.valid), Refusal::NoData, full);
     let token = state.owner;
-    let bare = checks::line(
-        both(both(owner, !data), !tokens::may_go_bare(token, target)),
+    let bare = step_checks::line(
+        both(both(owner, !data), !step_tokens::may_go_bare(token, target)),
         Refusal::BareOwner,
         stale,
     );
     let lacks = either(state.plain < plain, both(owner, !is_present(token)));
-    let short = checks::line(lacks, Refusal::NotHeld, bare);
-    checks::line(
-        tokens::token_count(plain, owner) == 0,
+    let short = step_checks::line(lacks, Refusal::NotHeld, bare);
+    step_checks::line(
+        step_tokens::token_count(plain, owner) == 0,
         Refusal::Empty,
         short,
     )
@@ -66,18 +64,18 @@ fn send_check(
     requires { ⌜ InLayout (now rec) ⌝ }
     ensures { λ r. ⌜ r ≡ check (get (now (rec .entry))) (Step.Send component block target plain owner «data») ⌝ }
 {
-    if checks::off_rack(rec, component, block) {
+    if step_checks::off_rack(rec, component, block) {
         return Check::Refuse(Refusal::OffRack);
     }
     let state = record::cells::token_state(rec, block, component);
     let below = token_lines(rec, state, target, plain, owner, data);
-    let claimed = checks::line(
-        checks::claimed(checks::waiting_set(rec, block), component),
+    let claimed = step_checks::line(
+        step_checks::claimed(step_checks::waiting_set(rec, block), component),
         Refusal::Claimed,
         below,
     );
-    let apart = checks::line(component == target, Refusal::SelfSend, claimed);
-    checks::line(rec[BOARD_COUNT_OFFSET] < target, Refusal::OffRack, apart)
+    let apart = step_checks::line(component == target, Refusal::SelfSend, claimed);
+    step_checks::line(rec[BOARD_COUNT_OFFSET] < target, Refusal::OffRack, apart)
 }
 
 // Appends the message, with the component's words where it has data. The call stands twice, so that the words are no choice between two arrays:
@@ -100,7 +98,7 @@ fn append_message(
         target,
         block,
         plain,
-        owner: tokens::taken_owner(owner, token),
+        owner: step_tokens::taken_owner(owner, token),
         data,
     };
     if data {
@@ -133,11 +131,11 @@ pub fn send_tokens(
     let state = record::cells::token_state(rec, block, component);
     let token = state.owner;
     append_message(rec, component, block, target, plain, owner, data, token);
-    tokens::keep(
+    step_tokens::keep(
         rec,
         component,
         block,
-        tokens::without_tokens(state, plain, owner),
+        step_tokens::without_tokens(state, plain, owner),
     );
 }
 
@@ -156,9 +154,9 @@ pub fn send(
     ensures buffer { λ r. ⌜ now (rec .exit) ≡ bufferAfter (now (rec .entry)) (Step.Send component block target plain owner «data») ⌝ }
 {
     let verdict = send_check(rec, component, block, target, plain, owner, data);
-    if checks::is_pass(verdict) { // a refused send takes no token
+    if step_checks::is_pass(verdict) { // a refused send takes no token
         send_tokens(rec, component, block, target, plain, owner, data);
         return Reply::Accepted(Answer::Done);
     }
-    checks::reply_of(verdict)
+    step_checks::reply_of(verdict)
 }
