@@ -126,16 +126,17 @@ uint64_t hyl_step(uint8_t *rec, size_t rec_len, const uint8_t *step, size_t step
 size_t hyl_run(uint8_t *rec, size_t rec_len, const uint8_t *list, size_t list_len, size_t *at, uint64_t *replies, size_t replies_len);
 
 /* The state letter of a board and a block (HYL_LETTER_OF), by what the board holds of the block's T tokens:
- *   'M'  modified: all T, and the owner is dirty
+ *   'M'  modified: all T, and the owner is dirty; no other component has a copy
  *   'O'  owned: the owner, clean or dirty, and fewer than T
- *   'E'  exclusive: all T, and the owner is clean; there is no other copy, and home has the words, as said above of clean owners
+ *   'E'  exclusive: all T, and the owner is clean; no other component has a copy, and home has the same words, if the record was opened and then changed
+ *        by these calls alone
  *   'S'  shared: plain tokens only, and its words are valid
  *   'I'  invalid: anything else; that is no token, or plain tokens only without valid words
  *
  * A `switch` over the letter needs a case for each of the five. A board may store where it shows 'M' or 'E', so a caller that takes 'M' alone for "may
  * store" misses boards that have all tokens. A store makes 'E' 'M', also a store of the value that was there already. A board that shows 'E' may give
- * the block home bare: a send of all that it holds with owner 1, data 0 and target 0. Where it shows 'M', HYL_BARE_OWNER refuses that. 'O' does not say
- * which mark the owner has: hyl_view_dirty of hyaloneth_view.h does.
+ * the block home bare, by a send with owner 1, data 0 and target 0: only HYL_CLAIMED and HYL_MESH_FULL can refuse it. Where it shows 'M', HYL_BARE_OWNER
+ * does, unless HYL_CLAIMED comes first. 'O' does not say which mark the owner has: hyl_view_dirty of hyaloneth_view.h does.
  *
  * Refused with HYL_UNSOUND, HYL_OFF_RACK or HYL_HOME, in that order.
  *   rec, rec_len  the buffer that holds the record

@@ -533,7 +533,7 @@ fn documents(crates: &Crates, bad: &mut Vec<String>) -> String {
     }
     for path in files("docs").into_iter().chain([PathBuf::from("README.md")]) {
         for (number, line) in text(&path).lines().enumerate() {
-            if line.chars().count() > LINE && !line.starts_with(['|', ' ']) {
+            if line.chars().count() > LINE && !line.starts_with('|') && !line.starts_with("    ") {
                 bad.push(format!("{}:{}: longer than {LINE} characters", path.display(), number + 1));
             }
         }

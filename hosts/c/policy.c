@@ -120,10 +120,29 @@ static struct {
     unsigned modified, owned, exclusive, shared, invalid;
 } shown;
 
-/* The display looks at a block. Where a board shows E, there is no other copy and home has the words: those that the flat memory has. */
+/* A board shows E: it and home must have the flat memory's words, and no other component may be valid. */
+static void exclusive(uint32_t board, uint32_t block)
+{
+    uint32_t component, word;
+
+    for (component = 0; component <= hyl_view_boards(rec); component++) {
+        for (word = 0; word < 8; word++)
+            if ((component == HOME || component == board) && hyl_view_word(rec, component, block, word) != memory.words[block][word]) {
+                memory.wrong++;
+                printf("WRONG: board %" PRIu32 " shows E of block %" PRIu32 ", and component %" PRIu32 " has another word %" PRIu32 "\n", board, block,
+                       component, word);
+            }
+        if (component != board && hyl_view_valid(rec, component, block)) {
+            memory.wrong++;
+            printf("WRONG: board %" PRIu32 " shows E of block %" PRIu32 ", and component %" PRIu32 " is valid\n", board, block, component);
+        }
+    }
+}
+
+/* The display looks at a block. */
 static void show(uint32_t block)
 {
-    uint32_t board, word;
+    uint32_t board;
 
     for (board = 1; board <= hyl_view_boards(rec); board++)
         switch (HYL_LETTER_OF(hyl_letter(rec, rec_len, board, block))) {
@@ -135,11 +154,7 @@ static void show(uint32_t block)
             break;
         case 'E':
             shown.exclusive++;
-            for (word = 0; word < 8; word++)
-                if (hyl_view_word(rec, HOME, block, word) != memory.words[block][word]) {
-                    memory.wrong++;
-                    printf("WRONG: board %" PRIu32 " shows E of block %" PRIu32 ", and home has another word %" PRIu32 "\n", board, block, word);
-                }
+            exclusive(board, block);
             break;
         case 'S':
             shown.shared++;

@@ -76,7 +76,7 @@ module _ (s : List ℕ) (c b : ℕ) (ok : soundBytes s ≡ true) where
 
 -- ---- the letter of a cell
 
--- two bytes of the form: a clean owner is there without its mark
+-- the owner is clean where its byte is 1 and its dirty byte 0, which is below it
 clean-is : (o d : ℕ) → o < 2 → d ≤ o → clean (ownerOf (eqb o 1) (eqb d 1)) ≡ ltb d o
 clean-is zero zero a b = refl
 clean-is zero (suc d) a b = absurd (omega arith)

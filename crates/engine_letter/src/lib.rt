@@ -26,7 +26,7 @@ fn letter_at(rec: &[u8], at: usize) -> Letter
 {
     let owner = wide_at(rec, at + OWNER_OFFSET);
     if wide_at(rec, at) + owner == wide_at(rec, TOKEN_COUNT_OFFSET) {
-        // A clean owner is there, and its mark is not.
+        // The owner is clean where its byte is 1 and its dirty byte 0.
         if wide_at(rec, at + DIRTY_OFFSET) < owner {
             return Letter::E;
         }

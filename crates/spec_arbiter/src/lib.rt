@@ -1,1 +1,1 @@
-// The persistent requests of boards, which document 01 calls claims. There is no code.
+// Claims: the persistent requests of boards on a block, and the sets of boards that they are made of. There is no code.

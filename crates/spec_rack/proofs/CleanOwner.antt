@@ -19,7 +19,7 @@ use Rattle.spec_rack.specs.declared.Owner.the-variants.{Clean, Dirty}
 use Rattle.spec_rack.specs.declared.Answer.{Answer}
 use Rattle.spec_rack.specs.declared.Reply.the-variants.{Refused}
 use Rattle.spec_rack.specs.Rack.{Cell, Rack, noCell, noMessage, fresh, blockAt, cellAt, messageAt, present, mayGoBare}
-use Rattle.spec_rack.specs.Soundness.{soundFields, sound, sizes}
+use Rattle.spec_rack.specs.Soundness.{soundContents, sound, sizes}
 use Rattle.spec_rack.specs.Rules.{Outcome, accepted, settled, check, after, answer, rules, sent, withTokens, delivered, offRack, reply, rackAfter}
 use Rattle.spec_rack.specs.FlatMemory.{Memory, blank, memoryAfter}
 use Rattle.spec_rack.specs.Lists.{ruledReply, ruledAfter, run, rackReplies, rackAccesses, runAll, repliesOf, stepsOf}
@@ -132,7 +132,7 @@ same-list (s ∷ ss) r h =
 pub as-before : AsBefore
 as-before =
     record {
-      message = λ n b m h. ap (λ (z : Bool). soundFields n b m && implies (present (m .header .owner)) z) (valid-before (m .header .«data») _ h);
+      message = λ n b m h. ap (λ (z : Bool). soundContents n b m && implies (present (m .header .owner)) z) (valid-before (m .header .«data») _ h);
       step = step-same;
       accepted-send = λ r c b t p o d a r′ e.
           step-same r (Send c b t p o d) (and-left (o && not d) _ (past-12 _ (sent r c b t p o d) a r′ _ _ _ _ _ (o && not d) _ _ e)) ∙ e;

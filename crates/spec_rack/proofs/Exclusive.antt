@@ -1,6 +1,6 @@
 -- A board that shows E holds every token, so it is alone, and its owner is clean, so home has the memory's words. What stays is seen by the cases of the four
 -- tests that the letter is made of.
-use Prim.Native.Nat.{ℕ, zero, suc, _≤_, _<_, suc-le-suc}
+use Prim.Native.Nat.{ℕ, zero, suc, _+_, _≤_, _<_, suc-le-suc}
 use native.Mathlib.Omega.{arith}
 use mathlib.Core.Path.{_≡_, refl, sym, ap, _∙_, subst}
 use mathlib.Core.Bool.{Bool, true, false, cond, _||_}
@@ -8,18 +8,19 @@ use mathlib.Core.List.{List, [], _∷_}
 use mathlib.Core.Logic.{⊎-elim}
 use lib.ListN.{length, getD, length-set}
 use lib.Dec.{eqb, ltb}
-use borrow.Author.Tests.{eqb-true, eq-eqb, ltb-false, le-ltb}
+use borrow.Author.Tests.{eqb-true, eq-eqb, ne-eqb, ltb-false, le-ltb}
 use Rattle.spec_base.specs.Folds.{toℕ}
 use Rattle.spec_base.proofs.Tests.{either, differs, or-l}
 use Rattle.spec_base.proofs.Folds.{sum-at}
-use Rattle.spec_wire.specs.declared.Refusal.the-variants.{OffRack, Home, Unsound, Short}
+use Rattle.spec_wire.specs.declared.Refusal.{Refusal}
+use Rattle.spec_wire.specs.declared.Refusal.the-variants.{OffRack, Home, Unsound, Short, NoData, SelfSend, Claimed, Empty, NotHeld, BareOwner, MeshFull}
 use Rattle.spec_wire.specs.declared.Check.{Check}
 use Rattle.spec_wire.specs.declared.Check.the-variants.{Pass, Refuse}
 use Rattle.spec_wire.specs.declared.Step.{Step}
-use Rattle.spec_wire.specs.declared.Step.the-variants.{Store}
+use Rattle.spec_wire.specs.declared.Step.the-variants.{Store, Send}
 use Rattle.spec_wire.specs.Refusals.{when_refuse_else_}
 use Rattle.spec_rack.specs.declared.Owner.{Owner}
-use Rattle.spec_rack.specs.declared.Owner.the-variants.{Away, Clean, Dirty}
+use Rattle.spec_rack.specs.declared.Owner.the-variants.{Dirty}
 use Rattle.spec_rack.specs.declared.Answer.{Answer}
 use Rattle.spec_rack.specs.declared.Answer.the-variants.{Done}
 use Rattle.spec_rack.specs.declared.Reply.the-variants.{Accepted}
@@ -27,7 +28,7 @@ use Rattle.spec_rack.specs.declared.Letter.{Letter}
 use Rattle.spec_rack.specs.declared.Letter.the-variants.{M, O, E, S, I}
 use Rattle.spec_rack.specs.declared.Lettered.{Lettered}
 use Rattle.spec_rack.specs.declared.Lettered.the-variants as Lettered
-use Rattle.spec_rack.specs.Rack.{Cell, Rack, noCell, isHome, present, clean, owners, fresh, blockAt, cellAt, held}
+use Rattle.spec_rack.specs.Rack.{Cell, Rack, noCell, isHome, present, clean, owners, mayGoBare, fresh, blockAt, cellAt, held}
 use Rattle.spec_rack.specs.Rules.{settled, check, after, answer, rules, stored, withWord, offRack, pastWords, reply, rackAfter}
 use Rattle.spec_rack.specs.FlatMemory.{Memory, blank, memoryAfter}
 use Rattle.spec_rack.specs.Soundness.{sizes, soundBytes}
@@ -35,18 +36,17 @@ use Rattle.spec_rack.specs.RecordLayout.{get}
 use Rattle.spec_rack.specs.Opening.{openAfter}
 use Rattle.spec_rack.specs.Lists.{ruledReply, ruledAfter, run, rackAccesses, stepsOf, after as bufferAfter}
 use Rattle.spec_rack.specs.Letter.{letterCheck, letterOf, lettered, letter, letterReply}
-use Rattle.spec_rack.specs.Exclusive.{Shows, letterOfBefore, letterBefore, letterReplyBefore, withoutE, replyWithoutE, unmoved, mayStore, WhereShown, Writer, Stores, Exclusive, MeansExclusive, MeansExclusiveBytes, GoesHomeBare, AsBefore}
+use Rattle.spec_rack.specs.Exclusive.{Shows, letterOfBefore, letterBefore, letterReplyBefore, withoutE, replyWithoutE, mayStore, WhereShown, CanStore, Stores, Exclusive, OnlyCopy, HasOnlyCopy, MeansExclusive, MeansExclusiveBytes, GoesHomeBare, AsBefore}
 use Rattle.spec_rack.proofs.SoundnessFacts.{Sound, sound-facts}
 use Rattle.spec_rack.proofs.BlockInvariant.{CleanCell, CleanMessage, HomeHas, Coherent, cell-in, cell-sound, cell-is, cell-has, cell-changed}
 use Rattle.spec_rack.proofs.OwnerMarks.{marks}
-use Rattle.spec_rack.proofs.OwnerLaws.{clean-present}
+use Rattle.spec_rack.proofs.OwnerLaws.{is-clean, is-dirty}
 use Rattle.spec_rack.proofs.ExclusiveStore.{alone, quiet, owner-here}
 use Rattle.spec_rack.proofs.StepPreservation.{inN, inB}
 use Rattle.spec_rack.proofs.FreshRack.{opened}
 use Rattle.spec_rack.proofs.ListCoherence.{run-fresh}
 use Rattle.spec_rack.proofs.SoundRecord.{sound-of}
 use Rattle.spec_rack.proofs.Coherence.{from-opening}
-use Rattle.spec_rack.proofs.CleanOwner.{bare-sends}
 
 -- ---- what stays
 
@@ -79,38 +79,38 @@ bytes-before s c b = go (soundBytes s)
     go true = rack-before (get s) c b
     go false = refl
 
--- O, S, I and a refusal are told to that reader as they are, and nothing else is
-told : (x y : Lettered) → unmoved y ≡ true → replyWithoutE x ≡ y → x ≡ y
-told (Lettered.Letter M) y u e = cc
-told (Lettered.Letter O) y u e = e
-told (Lettered.Letter E) y u e = cc
-told (Lettered.Letter S) y u e = e
-told (Lettered.Letter I) y u e = e
-told (Lettered.Refused n) y u e = e
+-- what such a reader sees, and what it was
+same-letter : (x : Lettered) (l : Letter) → (l ≡ M → ⊥) → replyWithoutE x ≡ Lettered.Letter l → x ≡ Lettered.Letter l
+same-letter (Lettered.Letter M) l ne e = let was : l ≡ M = cc in absurd (ne was)
+same-letter (Lettered.Letter O) l ne e = e
+same-letter (Lettered.Letter E) l ne e = let was : l ≡ M = cc in absurd (ne was)
+same-letter (Lettered.Letter S) l ne e = e
+same-letter (Lettered.Letter I) l ne e = e
+same-letter (Lettered.Refused n) l ne e = cc
 
-untold : (y : Lettered) → unmoved y ≡ true → replyWithoutE y ≡ y
-untold (Lettered.Letter M) u = cc
-untold (Lettered.Letter O) u = refl
-untold (Lettered.Letter E) u = cc
-untold (Lettered.Letter S) u = refl
-untold (Lettered.Letter I) u = refl
-untold (Lettered.Refused n) u = refl
+same-refusal : (x : Lettered) (n : Refusal) → replyWithoutE x ≡ Lettered.Refused n → x ≡ Lettered.Refused n
+same-refusal (Lettered.Letter l) n e = cc
+same-refusal (Lettered.Refused m) n e = e
 
-stored-M : (l : Letter) → mayStore l ≡ true → withoutE l ≡ M
-stored-M M u = refl
-stored-M O u = cc
-stored-M E u = refl
-stored-M S u = cc
-stored-M I u = cc
+unmoved : (l : Letter) → (l ≡ M → ⊥) → (l ≡ E → ⊥) → withoutE l ≡ l
+unmoved M m e = absurd (m refl)
+unmoved O m e = refl
+unmoved E m e = absurd (e refl)
+unmoved S m e = refl
+unmoved I m e = refl
 
 pub as-before : AsBefore
 as-before =
     record {
+      cell = letter-before;
       rack = rack-before;
       bytes = bytes-before;
-      still = λ s c b x u e. told (letterReply s c b) x u (bytes-before s c b ∙ e);
-      only = λ s c b x u e. sym (bytes-before s c b) ∙ ap replyWithoutE e ∙ untold x u;
-      was-M = λ s c b l u e. sym (bytes-before s c b) ∙ ap replyWithoutE e ∙ ap Lettered.Letter (stored-M l u);
+      still = λ s c b l ne e. same-letter (letterReply s c b) l ne (bytes-before s c b ∙ e);
+      only = λ s c b l m e x. sym (bytes-before s c b) ∙ ap replyWithoutE x ∙ ap Lettered.Letter (unmoved l m e);
+      M-was-M = λ s c b x. sym (bytes-before s c b) ∙ ap replyWithoutE x;
+      E-was-M = λ s c b x. sym (bytes-before s c b) ∙ ap replyWithoutE x;
+      refused = λ s c b n x. sym (bytes-before s c b) ∙ ap replyWithoutE x;
+      still-refused = λ s c b n e. same-refusal (letterReply s c b) n (bytes-before s c b ∙ e);
     }
 
 -- ---- where E and M are shown
@@ -163,16 +163,6 @@ shown-M false u true v e = (cc, cc)
 shown-M false u false true e = (cc, cc)
 shown-M false u false false e = (cc, cc)
 
-is-clean : (w : Owner) → clean w ≡ true → w ≡ Clean
-is-clean Away h = cc
-is-clean Clean h = refl
-is-clean Dirty h = cc
-
-is-dirty : (w : Owner) → present w ≡ true → clean w ≡ false → w ≡ Dirty
-is-dirty Away h u = cc
-is-dirty Clean h u = cc
-is-dirty Dirty h u = refl
-
 E-all : (t : ℕ) (x : Cell) → letterOf t x ≡ E → (held x ≡ t) × (clean (x .owner) ≡ true)
 E-all t x e =
     let w = shown-E (eqb (held x) t) (clean (x .owner)) (present (x .owner)) (x .valid) e in
@@ -215,30 +205,30 @@ store-past r false true short a e = (cc, (cc, cc))
 store-past r false false true a e = (cc, (cc, cc))
 store-past r false false false a e = (refl, (refl, refl))
 
--- an accepted store leaves what it makes
-made : (r q : Rack) (k : Check) (x a : Answer) → reply (settled k x q) ≡ Accepted a → rackAfter r (settled k x q) ≡ q
-made r q Pass x a e = refl
-made r q (Refuse n) x a e = cc
+-- an accepted step leaves the rack that it settles on
+settled-after : (r q : Rack) (k : Check) (x a : Answer) → reply (settled k x q) ≡ Accepted a → rackAfter r (settled k x q) ≡ q
+settled-after r q Pass x a e = refl
+settled-after r q (Refuse n) x a e = cc
 
 -- E and M are T held
-writer-all : (t : ℕ) (x : Cell) (l : Letter) → letterOf t x ≡ l → mayStore l ≡ true → held x ≡ t
-writer-all t x M e u = M-all t x e .0
-writer-all t x O e u = cc
-writer-all t x E e u = E-all t x e .0
-writer-all t x S e u = cc
-writer-all t x I e u = cc
+store-all : (t : ℕ) (x : Cell) (l : Letter) → letterOf t x ≡ l → mayStore l ≡ true → held x ≡ t
+store-all t x M e u = M-all t x e .0
+store-all t x O e u = cc
+store-all t x E e u = E-all t x e .0
+store-all t x S e u = cc
+store-all t x I e u = cc
 
 either-stores : (u : Bool) → mayStore (cond u E M) ≡ true
 either-stores true = refl
 either-stores false = refl
 
 module _ (r : Rack) (c b w v : ℕ) where
-  accepts : w < 8 → Writer r c b → ruledReply r (Store c b w v) ≡ Accepted Done
+  accepts : w < 8 → CanStore r c b → ruledReply r (Store c b w v) ≡ Accepted Done
   unfolding rules check answer when_refuse_else_
-  accepts few writer =
-      let l = letter-of r c b (writer .shown) (writer .shows) in
+  accepts few can =
+      let l = letter-of r c b (can .shown) (can .shows) in
       let on = on-rack r c b (l .0) in
-      let all = writer-all (r .tokens) (cellAt r b c) (writer .shown) (l .1) (writer .may) in
+      let all = store-all (r .tokens) (cellAt r b c) (can .shown) (l .1) (can .may) in
       rw (on .0, le-ltb 7 w (omega arith), on .1, le-ltb (held (cellAt r b c)) (r .tokens) (omega arith)) refl
 
   module _ (s : Sound r) (a : Answer) (e : ruledReply r (Store c b w v) ≡ Accepted a) where
@@ -264,7 +254,7 @@ module _ (r : Rack) (c b w v : ℕ) where
           ltb-false (held (cellAt r b c)) (r .tokens) (lines-past .1 .1),
         )
 
-    only : Writer r c b
+    only : CanStore r c b
     only =
         record {
           shown = cond (clean (cellAt r b c .owner)) E M;
@@ -295,7 +285,7 @@ module _ (r : Rack) (c b w v : ℕ) where
     then-M : Shows (ruledAfter r (Store c b w v)) c b M
     unfolding rules after stored
     then-M =
-        subst (λ (q : Rack). Shows q c b M) (sym (made r (stored r c b w v) (check r (Store c b w v)) (answer r (Store c b w v)) a e))
+        subst (λ (q : Rack). Shows q c b M) (sym (settled-after r (stored r c b w v) (check r (Store c b w v)) (answer r (Store c b w v)) a e))
         (shows (stored r c b w v) c b M stored-on stored-letter)
 
 pub stores : Stores
@@ -314,21 +304,34 @@ within [] j v = differs (sym v)
 within (x ∷ l) zero v = omega arith
 within (x ∷ l) (suc j) v = suc-le-suc (within l j v)
 
+only-copy : (r : Rack) (c b : ℕ) → Sound r → CanStore r c b → OnlyCopy r c b
+only-copy r c b s can =
+    let l = letter-of r c b (can .shown) (can .shows) in
+    let on = on-rack r c b (l .0) .0 in
+    let n = inN r s c b on in
+    let k = inB r s c b on in
+    let all = store-all (r .tokens) (cellAt r b c) (can .shown) (l .1) (can .may) in
+    let full : r .tokens ≤ held (cellAt r b c) = omega (arith, all) in
+    record {
+      valid = cell-sound r s b c k n .current (owner-here r s c b n k full);
+      alone = λ j ne. ⊎-elim (λ v. absurd (alone r s c b n k full j (within (blockAt r b .cells) j v) ne v)) (λ v. v) (either (cellAt r b j .valid));
+      none-in-flight = quiet r s c b n k full;
+    }
+
+pub has-only-copy : HasOnlyCopy
+has-only-copy r c b ok = only-copy r c b (sound-facts r ok)
+
 exclusive : (r : Rack) (mem : Memory) → Sound r → Coherent r mem → (c b : ℕ) → Shows r c b E → Exclusive r mem c b
 exclusive r mem s coh c b e =
     let l = letter-of r c b E e in
     let on = on-rack r c b (l .0) .0 in
     let n = inN r s c b on in
     let k = inB r s c b on in
-    let w = E-all (r .tokens) (cellAt r b c) (l .1) in
-    let current = cell-sound r s b c k n .current (clean-present (cellAt r b c .owner) (w .1)) in
-    let full : r .tokens ≤ held (cellAt r b c) = omega (arith, w .0) in
+    let copy = only-copy r c b s (record { shown = E; shows = e; may = refl }) in
     record {
-      valid = current;
-      words = cell-has r s b c k n mem coh current;
-      home = cell-is r s b c k n (CleanCell (HomeHas mem r)) (CleanMessage (HomeHas mem r)) (coh .home) (w .1);
-      alone = λ j ne. ⊎-elim (λ v. absurd (alone r s c b n k full j (within (blockAt r b .cells) j v) ne v)) (λ v. v) (either (cellAt r b j .valid));
-      none-in-flight = quiet r s c b n k full;
+      only = copy;
+      words = cell-has r s b c k n mem coh (copy .valid);
+      home = cell-is r s b c k n (CleanCell (HomeHas mem r)) (CleanMessage (HomeHas mem r)) (coh .home) (E-all (r .tokens) (cellAt r b c) (l .1) .1);
     }
 
 after-list : (n b t : ℕ) (ss : List Step) → sizes n b t ≡ true → (c k : ℕ) → Shows (run (fresh n b t) ss) c k E
@@ -350,5 +353,33 @@ means-exclusive-bytes n b t s steps c k bytes e u =
     (ap (λ (r : Rack). letter r c k) (sym (ran .rack))
     ∙ ap (λ (z : Bool). cond z (letter (get last) c k) (Lettered.Refused Unsound)) (sym (sound-of last (ran .live))) ∙ u))
 
+-- a send that passes every line
+send-past : (r : Rack) (off self claimed none short bare stale full : Bool) → off ≡ false → self ≡ false → claimed ≡ false → none ≡ false → short ≡ false
+    → bare ≡ false → stale ≡ false → full ≡ false
+    → reply (settled
+    (when off refuse OffRack else
+    when self refuse SelfSend else
+    when claimed refuse Claimed else
+    when none refuse Empty else
+    when short refuse NotHeld else
+    when bare refuse BareOwner else
+    when stale refuse NoData else
+    when full refuse MeshFull else
+    Pass) Done r) ≡ Accepted Done
+unfolding when_refuse_else_
+send-past r off self claimed none short bare stale full a b c d e f g h = rw (a, b, c, d, e, f, g, h) refl
+
 pub goes-home-bare : GoesHomeBare
-goes-home-bare r c b p ok e = bare-sends .home r c b p ok (where-shown .only-clean r c b e .1)
+unfolding rules check answer
+goes-home-bare r c b p ok e few free room =
+    let on = on-rack r c b (letter-of r c b E e .0) in
+    let mark = where-shown .only-clean r c b e .1 in
+    send-past (after r (Send c b 0 p true false)) _ _ _ _ _ _ _ _
+    (rw (on .0, le-ltb (r .boards) 0 (omega arith)) refl)
+    (on .1)
+    (rw free refl)
+    (ne-eqb (p + 1) 0 (λ z. omega arith))
+    (rw (le-ltb (cellAt r b c .plain) p few, ap present mark) refl)
+    (rw (ap (λ (w : Owner). mayGoBare w 0) mark) refl)
+    refl
+    room

@@ -27,6 +27,16 @@ is-away Away h = refl
 is-away Dirty h = absurd (omega arith)
 is-away Clean h = absurd (omega arith)
 
+pub is-clean : (w : Owner) → clean w ≡ true → w ≡ Clean
+is-clean Away h = cc
+is-clean Clean h = refl
+is-clean Dirty h = cc
+
+pub is-dirty : (w : Owner) → present w ≡ true → clean w ≡ false → w ≡ Dirty
+is-dirty Away h u = cc
+is-dirty Clean h u = cc
+is-dirty Dirty h u = refl
+
 -- an owner that is not dirty, as home's own always is
 abbrev pub NotDirty : Owner → Type 0
 NotDirty Away = Unit {0}

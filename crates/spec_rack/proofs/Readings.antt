@@ -3,6 +3,8 @@ use mathlib.Core.Path.{_≡_, refl}
 use mathlib.Core.Bool.{Bool, true, false}
 use mathlib.Core.List.{List}
 use Prim.Native.Nat.{ℕ}
+use lib.ListN.{length}
+use borrow.Author.Tests.{lt-leb}
 use Rattle.spec_base.specs.Folds.{allBelow}
 use Rattle.spec_wire.specs.declared.Refusal.{Refusal}
 use Rattle.spec_wire.specs.declared.Check.{Check}
@@ -14,6 +16,7 @@ use Rattle.spec_wire.specs.Reader.{hasHeader, readBody, readRecord}
 use Rattle.spec_arbiter.specs.Boards.{bit, member, insert, remove, subset, boardsOnly, firstFrom, lowest}
 use Rattle.spec_arbiter.specs.Claims.{raiseCheck, raised, lowerCheck, lowered, soundBarring, soundClaims}
 use Rattle.spec_rack.specs.Rack.{meshLimit}
+use Rattle.spec_rack.specs.RecordLayout.{recordLength, blocksIn}
 use Rattle.spec_rack.specs.Soundness.{sound, wellFormedRecord, soundBytes}
 use Rattle.spec_rack.specs.Rules.{check, after, answer, rules, stored, sent, delivered, forwarded}
 use Rattle.spec_rack.specs.Letter.{letterCheck, letter, letterReply}
@@ -21,7 +24,7 @@ use Rattle.spec_rack.specs.FlatMemory.{flat}
 use Rattle.spec_rack.specs.Lists.{runAll, answersOf, accessesOf}
 use Rattle.spec_rack.specs.Opening.{openCheck, openReply}
 use Rattle.spec_rack.specs.Entries.{stepReply}
-use Rattle.spec_rack.specs.Readings.{listed, among, OnlyNaming, FirstMatch, Edges, Effects, FlatMemory, RaiseAndLower, Soundness}
+use Rattle.spec_rack.specs.Readings.{listed, among, OnlyNaming, ShortRecord, FirstMatch, Edges, Effects, FlatMemory, RaiseAndLower, Soundness}
 
 -- a line of the table with a number of the list, above lines that keep to it
 keeps : (ns : List ℕ) (t : Bool) (n : Refusal) (k : Check) → listed (number n) ns ≡ true → among ns k ≡ true → among ns (when t refuse n else k) ≡ true
@@ -38,6 +41,10 @@ only-naming r (Deliver i) = search keeps depth 12
 only-naming r (Raise c b) = search keeps depth 12
 only-naming r (Lower c b) = search keeps depth 12
 only-naming r (Forward c b) = search keeps depth 12
+
+pub short-record : ShortRecord
+unfolding letterReply soundBytes wellFormedRecord
+short-record s c b l = rw (lt-leb (recordLength (blocksIn s)) (length s) l) refl
 
 pub first-match : FirstMatch
 unfolding runAll when_refuse_else_ check after answer rules letterCheck letter meshLimit stored sent delivered forwarded raiseCheck raised lowerCheck lowered bit member insert remove firstFrom lowest stepReply letterReply soundBytes wellFormedRecord stepBytes fieldBytes recordBytes readRecord readBody hasHeader kindOf fieldArray openCheck openReply
@@ -68,7 +75,6 @@ first-match =
       board-3 = refl;
       load-5 = refl;
       letter-2 = refl;
-      letter-2-short = refl;
       letter-3 = refl;
       letter-4 = refl;
       step-1 = refl;

@@ -23,7 +23,7 @@ use Rattle.spec_rack.specs.declared.Answer.{Answer}
 use Rattle.spec_rack.specs.declared.Reply.{Reply}
 use Rattle.spec_rack.specs.declared.Reply.the-variants.{Accepted, Refused}
 use Rattle.spec_rack.specs.Rack.{Cell, Rack, isHome, present, clean, mayGoBare, claimsAt, cellAt, messageAt, fullCell}
-use Rattle.spec_rack.specs.Soundness.{soundFields, soundMessage, sound}
+use Rattle.spec_rack.specs.Soundness.{soundContents, soundMessage, sound}
 use Rattle.spec_rack.specs.Rules.{Outcome, accepted, settled, opening, rules, withWord, withoutTokens, message, sent, joinedOwner, withTokens, withCell, answer, offRack, meshFull, pastMesh, reply, rackAfter}
 use Rattle.spec_rack.specs.FlatMemory.{blank, memoryAfter}
 use Rattle.spec_rack.specs.RecordLayout.{get}
@@ -156,9 +156,9 @@ isBare r (Raise c b) = false
 isBare r (Lower c b) = false
 isBare r (Forward c b) = false
 
--- what document 01 asks of a message: data wherever it has the owner
+-- document 01 asks for data wherever a message has the owner. The rest of what it asks (`soundContents`) did not move, and is not written a second time.
 abbrev pub soundMessageBefore : ℕ → ℕ → Message → Bool
-soundMessageBefore n b m = soundFields n b m && implies (present (m .header .owner)) (m .header .«data»)
+soundMessageBefore n b m = soundContents n b m && implies (present (m .header .owner)) (m .header .«data»)
 
 -- no step of a list is one, at its turn
 abbrev pub noneBare : Rack → List Step → Bool
@@ -166,7 +166,7 @@ noneBare r [] = true
 noneBare r (s ∷ ss) = not (isBare r s) && noneBare (ruledAfter r s) ss
 
 pub record AsBefore : Type 0 where
-  -- every other message is sound, or not, as before; nothing else of what a sound rack is has moved
+  -- every other message is sound, or not, as before
   pub message : (n b : ℕ) (m : Message) → (not (m .header .«data») && mayGoBare (m .header .owner) (m .header .target)) ≡ false
       → soundMessage n b m ≡ soundMessageBefore n b m
   -- on every rack every other step is refused, or answered and made, as before

@@ -1,11 +1,11 @@
 -- Document 01, "The rack", "Steps", "Refusal table" and "State letter", with document 02, Nos. 1, 2, 4 and 7: sentences that the W lines leave out, each an
 -- equation on a small rack that is computed. They hold the definitions to the paper where a theorem about both definition and code could not tell a wrong
 -- reading.
-use Prim.Native.Nat.{ℕ, _-_}
+use Prim.Native.Nat.{ℕ, _<_}
 use mathlib.Core.Path.{_≡_}
 use mathlib.Core.Bool.{Bool, true, false, _||_}
 use mathlib.Core.List.{List, [], _∷_, _++_, map}
-use lib.ListN.{replicate}
+use lib.ListN.{length, replicate}
 use lib.Dec.{eqb, leb}
 use Rattle.spec_wire.specs.Refusals.{number}
 use Rattle.spec_wire.specs.declared.Refusal.the-variants.{Torn, Unsound, OffRack, Home}
@@ -27,7 +27,7 @@ use Rattle.spec_rack.specs.Rules.{check, rules, reply, replyOf}
 use Rattle.spec_rack.specs.Letter.{letter, letterReply}
 use Rattle.spec_rack.specs.FlatMemory.{load, store, blank, flat}
 use Rattle.spec_rack.specs.Lists.{run, rackAnswers, rackAccesses}
-use Rattle.spec_rack.specs.RecordLayout.{recordLength, longestRecord}
+use Rattle.spec_rack.specs.RecordLayout.{recordLength, longestRecord, blocksIn}
 use Rattle.spec_rack.specs.Opening.{openCheck, openReply}
 use Rattle.spec_rack.specs.Entries.{stepReply}
 use Rattle.spec_rack.specs.Examples.{code, sendPlain}
@@ -55,6 +55,11 @@ among ns (Refuse r) = listed (number r) ns
 -- so a deliver never meets 3 or 4, a load, a send or a forward never 4, a forward never 9
 abbrev pub OnlyNaming : Type 0
 OnlyNaming = (r : Rack) (s : Step) → among (naming s) (check r s) ≡ true
+
+-- ---- a letter asks 2 before 3 and 4: a buffer with too few bytes for its count of blocks gives 2, whatever the component and the block
+
+abbrev pub ShortRecord : Type 0
+ShortRecord = (s : List ℕ) (c b : ℕ) → length s < recordLength (blocksIn s) → letterReply s c b ≡ Lettered.Refused Unsound
 
 -- ---- a rack at a time: what each of several steps would meet on it, 0 for accepted
 
@@ -121,8 +126,6 @@ pub record FirstMatch : Type 0 where
   pub load-5 : met full (Load 1 0 0 ∷ Load 1 1 0 ∷ []) ≡ 5 ∷ 6 ∷ []
   -- letter: 2, 3, 4
   pub letter-2 : letterReply [] 0 33 ≡ Lettered.Refused Unsound
-  -- a buffer of one byte too few for its blocks, asked for a component off the rack
-  pub letter-2-short : letterReply (2 ∷ 1 ∷ 3 ∷ 0 ∷ replicate (recordLength 1 - 5) 0) 3 0 ≡ Lettered.Refused Unsound
   pub letter-3 : letter (fresh 2 2 3) 0 2 ≡ Lettered.Refused OffRack
   pub letter-4 : letter (fresh 2 2 3) 0 1 ≡ Lettered.Refused Home
   -- a step: 1, 2, 3, with a buffer that is too short for a record

@@ -18,9 +18,9 @@ sizes n b t = leb 1 n && leb n 15 && leb 1 b && leb b 32 && leb n t && leb t 64
 abbrev pub eightWords : List ℕ → Bool
 eightWords ws = eqb (length ws) 8
 
--- of a rack of n boards and b blocks: what every message has, with the owner or without
-abbrev pub soundFields : ℕ → ℕ → Message → Bool
-soundFields n b m =
+-- of a rack of n boards and b blocks: what is asked of every message, with the owner or without
+abbrev pub soundContents : ℕ → ℕ → Message → Bool
+soundContents n b m =
     let h = m .header in
     eightWords (m .words)
     && implies (not (h .«data»)) (all (eqb 0) (m .words))  -- words all 0 if it has no data
@@ -31,7 +31,7 @@ soundFields n b m =
 
 abbrev pub soundMessage : ℕ → ℕ → Message → Bool
 soundMessage n b m =
-    soundFields n b m
+    soundContents n b m
     && implies (present (m .header .owner)) (supplied (m .header))  -- and data if it has the owner, unless that is clean and bound for home
 
 abbrev pub soundCell : Cell → Bool

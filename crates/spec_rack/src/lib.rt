@@ -30,8 +30,8 @@ pub enum Lettered {
     Refused(Refusal),
 }
 
-// The owner token of a block, as a component or a message has it: away, or there with its mark. A dirty owner's block was stored to since the owner was
-// last at home.
+// The owner token of a block, as a component or a message has it: there with its mark, or away. A dirty owner's block was stored to since the owner was
+// last at home. The order is the one with the fewest instructions; no byte depends on it.
 pub enum Owner {
     Clean,
     Dirty,

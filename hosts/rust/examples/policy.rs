@@ -91,9 +91,30 @@ struct Shown {
     invalid: u32,
 }
 
+/// A board shows E: it and home must have the flat memory's words, and no other component may be
+/// valid.
+fn exclusive(view: &View, board: u32, block: u32, memory: &mut FlatMemory) {
+    let words = memory.words[block as usize];
+    for component in 0..=view.boards() {
+        let Some(cell) = view.cell(component, block) else { continue };
+        if (component == HOME || component == board) && cell.words != words {
+            memory.wrong += 1;
+            println!(
+                "WRONG: board {board} shows E of block {block}, and component {component} has \
+                 other words"
+            );
+        }
+        if component != board && cell.valid {
+            memory.wrong += 1;
+            println!(
+                "WRONG: board {board} shows E of block {block}, and component {component} is valid"
+            );
+        }
+    }
+}
+
 impl Shown {
-    /// The display looks at a block. Where a board shows E, there is no other copy and home has the
-    /// words: those that the flat memory has.
+    /// The display looks at a block.
     fn show(&mut self, view: &View, block: u32, memory: &mut FlatMemory) {
         for board in 1..=view.boards() {
             match view.letter(board, block) {
@@ -101,16 +122,7 @@ impl Shown {
                 Some(Letter::Owned) => self.owned += 1,
                 Some(Letter::Exclusive) => {
                     self.exclusive += 1;
-                    let home = view.cell(HOME, block).map_or([0; 8], |cell| cell.words);
-                    for (word, value) in home.into_iter().enumerate() {
-                        if value != memory.words[block as usize][word] {
-                            memory.wrong += 1;
-                            println!(
-                                "WRONG: board {board} shows E of block {block}, and home has \
-                                 another word {word}"
-                            );
-                        }
-                    }
+                    exclusive(view, board, block, memory);
                 }
                 Some(Letter::Shared) => self.shared += 1,
                 Some(Letter::Invalid) => self.invalid += 1,

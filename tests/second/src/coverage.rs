@@ -159,7 +159,7 @@ pub struct Coverage {
     shown: [u64; LETTERS.len()],
     by_rack: BTreeMap<(u32, u32, u32), [u64; LETTERS.len()]>,
     letters: u64,
-    told: [u64; letters::TOLD.len()],
+    letter_sorts: [u64; letters::SORTS.len()],
     changed: [u64; letters::CHANGED.len()],
     delivered: Delivered,
     at_home: [u64; AT_HOME.len()],
@@ -201,6 +201,11 @@ impl Coverage {
         }
     }
 
+    /// A rack of the lists: without letters it is a gap.
+    pub fn expect(&mut self, sizes: (u32, u32, u32)) {
+        self.by_rack.entry(sizes).or_default();
+    }
+
     /// Counts a state letter of a list, as the rack gives it.
     pub fn letter(&mut self, rack: &Rack, component: u32, block: u32, result: u64) {
         self.count(LETTER, result);
@@ -208,7 +213,7 @@ impl Coverage {
         if let Some(letter) = letters::place(result) {
             let sizes = (rack.boards.into(), rack.blocks.len() as u32, rack.tokens);
             self.by_rack.entry(sizes).or_default()[letter] += 1;
-            add_each(&mut self.told, letters::told(rack, component, block, LETTERS[letter]));
+            add_each(&mut self.letter_sorts, letters::sorts(rack, component, block, LETTERS[letter]));
         }
     }
 
@@ -276,7 +281,7 @@ impl Coverage {
             add_each(self.by_rack.entry(sizes).or_default(), shown);
         }
         self.letters += other.letters;
-        add_each(&mut self.told, other.told);
+        add_each(&mut self.letter_sorts, other.letter_sorts);
         add_each(&mut self.changed, other.changed);
         add_each(self.delivered.counts.iter_mut().flatten(), other.delivered.counts.into_iter().flatten());
         add_each(&mut self.delivered.served, other.delivered.served);
@@ -301,7 +306,7 @@ impl Coverage {
         for ((boards, blocks, tokens), shown) in &self.by_rack {
             println!("{:>12}: {}", format!("{boards}, {blocks}, {tokens}"), named(&LETTERS, shown));
         }
-        println!("letters of lists: {}", named(&letters::TOLD, &self.told));
+        println!("letters of lists: {}", named(&letters::SORTS, &self.letter_sorts));
         println!("letters that a step changed: {}", named(&letters::CHANGED, &self.changed));
         for (kind, counts) in KINDS.iter().zip(&self.counts) {
             let refused: Vec<String> =
@@ -328,7 +333,7 @@ impl Coverage {
                 }
             }
         }
-        gaps.extend(missing(&letters::TOLD, &self.told).map(|sort| format!("no {sort}")));
+        gaps.extend(missing(&letters::SORTS, &self.letter_sorts).map(|sort| format!("no {sort}")));
         gaps.extend(missing(&letters::CHANGED, &self.changed).map(|sort| format!("no {sort}")));
         if self.shown.iter().sum::<u64>() != self.counts[LETTER][0] {
             gaps.push("a letter is none of the five".into());

@@ -21,7 +21,7 @@ pub fn possible(tokens: u32) -> [bool; LETTERS.len()] {
 // ---- letters as they are asked
 
 /// Letters at which an engine would be seen that goes by something else than the mark of this owner, or by the mark where tokens are missing.
-pub const TOLD: [&str; 11] = [
+pub const SORTS: [&str; 11] = [
     "E with T = 1",
     "M with T = 1",
     "E of words that are not all 0",
@@ -35,8 +35,8 @@ pub const TOLD: [&str; 11] = [
     "I with all but the owner",
 ];
 
-/// Which of `TOLD` it is that a board showed this letter of a block.
-pub fn told(rack: &Rack, component: u32, block: u32, letter: &str) -> [bool; TOLD.len()] {
+/// Which of `SORTS` it is that a board showed this letter of a block.
+pub fn sorts(rack: &Rack, component: u32, block: u32, letter: &str) -> [bool; SORTS.len()] {
     let (component, number) = (component as usize, block as usize);
     let block = &rack.blocks[number];
     let cell = &block.cells[component];

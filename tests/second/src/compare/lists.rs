@@ -11,6 +11,7 @@ use std::collections::BTreeSet;
 
 impl Harness {
     pub fn lists(&mut self, steps: u64) -> Result<(), String> {
+        RACKS.iter().for_each(|&(sizes, _)| self.coverage.expect(sizes));
         while self.coverage.steps < steps {
             let mut draw = self.rng.below(RACKS.iter().map(|(_, weight)| weight).sum());
             let mut rack = 0;
