@@ -109,7 +109,7 @@ edges =
     }
 
 pub effects : Effects
-unfolding runAll when_refuse_else_ check after answer rules letterCheck letter meshLimit stored sent delivered forwarded raiseCheck raised lowerCheck lowered bit member insert remove firstFrom lowest answersOf
+unfolding runAll when_refuse_else_ check after answer rules letterCheck letter meshLimit stored sent delivered forwarded raiseCheck raised lowerCheck lowered bit member insert remove firstFrom lowest answersOf sound allBelow soundClaims boardsOnly soundBarring subset
 effects =
     record {
       fresh-home = refl;
@@ -133,6 +133,7 @@ effects =
       mesh-63-send = refl;
       letter-one = refl;
       letter-one-stored = refl;
+      letter-other-at-home = (refl, refl);
     }
 
 pub flat-memory : FlatMemory

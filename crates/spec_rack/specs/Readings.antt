@@ -199,6 +199,10 @@ small cells claims mesh = record { boards = 2; tokens = 3; blocks = record { cel
 abbrev pub meeting : Rack
 meeting = small (noCell ∷ cell 0 Clean true 4 ∷ noCell ∷ []) (noClaims 2) (mail 0 1 0 1 Away true 5 ∷ mail 0 1 0 1 Away false 0 ∷ [])
 
+-- a sound rack that no opening leads to: board 1 has all of block 0 with a clean owner, and home has another word
+abbrev pub otherAtHome : Rack
+otherAtHome = small (cell 0 Away false 5 ∷ cell 2 Clean true 4 ∷ noCell ∷ []) (noClaims 2) []
+
 pub record Effects : Type 0 where
   -- a fresh rack: home has all T, valid; boards have nothing; words 0, sets and mesh empty
   pub fresh-home : cellAt two 1 0 ≡ cell 2 Clean true 0
@@ -241,6 +245,8 @@ pub record Effects : Type 0 where
   -- where T = 1 a board that holds the owner holds all: E, and M once it has stored
   pub letter-one : letter (run (fresh 1 1 1) (Send 0 0 1 0 true true ∷ Deliver 0 ∷ [])) 1 0 ≡ Lettered.Letter E
   pub letter-one-stored : letter (run (fresh 1 1 1) (Send 0 0 1 0 true true ∷ Deliver 0 ∷ Store 1 0 0 7 ∷ [])) 1 0 ≡ Lettered.Letter M
+  -- E says that home has the words only after an opening: the mark is sound without it
+  pub letter-other-at-home : (sound otherAtHome ≡ true) × (letter otherAtHome 1 0 ≡ Lettered.Letter E)
 
 -- ---- the flat memory
 
