@@ -7,7 +7,7 @@ use Rattle.spec_rack.specs.declared.Owner.the-variants.{Away, Dirty, Cle
 use Prim.Native.Nat.{ℕ}
 use Rattle.spec_rack.specs.Rack.{isHome, present}
 use Rattle.spec_rack.specs.Rules.{dirtied, joinedOwner}
-use Rattle.spec_rack.specs.CleanOwner.{Marks}
+use Rattle.spec_rack.specs.OwnerMarks.{Marks}
 
 is-dirtied : (w : Owner) → present w ≡ true → dirtied w ≡ Dirty
 is-dirtied Away h = differs (sym h)

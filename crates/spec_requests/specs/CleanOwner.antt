@@ -4,7 +4,7 @@
 use Prim.Native.Nat.{ℕ, _+_, _<_}
 use mathlib.Core.Path.{_≡_}
 use mathlib.Core.Bool.{Bool, true, false, not, cond, _&&_, _||_}
-use mathlib.Core.List.{List, [], _∷_}
+use mathlib.Core.List.{List, [], _∷_, map}
 use lib.ListN.{length, getD}
 use lib.Dec.{eqb, ltb}
 use Rattle.spec_base.specs.Folds.{toℕ, implies, removeAt}
@@ -16,36 +16,20 @@ use Rattle.spec_wire.specs.Refusals.{when_refuse_else_}
 use Rattle.spec_wire.specs.declared.Step.{Step}
 use Rattle.spec_wire.specs.declared.Step.the-variants.{Load, Store, Send, Deliver, Raise, Lower, Forward}
 use Rattle.spec_arbiter.specs.Claims.{unclaimed}
-use Rattle.spec_rack.specs.declared.Owner.the-variants.{Away, Dirty, Clean}
+use Rattle.spec_rack.specs.declared.Owner.the-variants.{Dirty, Clean}
 use Rattle.spec_rack.specs.declared.Message.{Message}
 use Rattle.spec_rack.specs.declared.Answer.the-variants.{Done}
 use Rattle.spec_rack.specs.declared.Answer.{Answer}
 use Rattle.spec_rack.specs.declared.Reply.{Reply}
 use Rattle.spec_rack.specs.declared.Reply.the-variants.{Accepted, Refused}
-use Rattle.spec_rack.specs.Rack.{Cell, Rack, isHome, present, clean, mayGoBare, claimsAt, cellAt, messageAt, fullCell}
+use Rattle.spec_rack.specs.Rack.{Cell, Rack, fresh, present, clean, mayGoBare, claimsAt, cellAt, messageAt}
 use Rattle.spec_rack.specs.Soundness.{soundContents, soundMessage, sound}
-use Rattle.spec_rack.specs.Rules.{Outcome, accepted, settled, opening, rules, withWord, withoutTokens, message, sent, joinedOwner, withTokens, withCell, answer, offRack, meshFull, pastMesh, reply, rackAfter}
+use Rattle.spec_rack.specs.Rules.{Outcome, accepted, settled, opening, rules, message, sent, joinedOwner, withCell, answer, offRack, meshFull, pastMesh, reply, rackAfter}
 use Rattle.spec_rack.specs.FlatMemory.{blank, memoryAfter}
 use Rattle.spec_rack.specs.RecordLayout.{get}
 use Rattle.spec_rack.specs.Opening.{openReply, openAfter}
 use Rattle.spec_rack.specs.Lists.{ruledReply, ruledAfter, run, rackReplies, rackAccesses, runAll, repliesOf, after, accesses}
-
--- ---- the mark: fresh owners are clean, a store makes the owner dirty, it becomes clean on delivery to home, and otherwise it travels as it is
-
-pub record Marks : Type 0 where
-  pub fresh-clean : (t : ℕ) → fullCell t .owner ≡ Clean
-  -- whatever the word and the value, also where the value is there already
-  pub stored-dirty : (x : Cell) (w v : ℕ) → present (x .owner) ≡ true → withWord x w v .owner ≡ Dirty
-  -- a message has the sender's owner, with data or without, to home or to a board; then the sender has none
-  pub sent : (x : Cell) (c b t p : ℕ) (d : Bool) → message x c b t p true d .header .owner ≡ x .owner
-  pub sent-away : (x : Cell) (p : ℕ) → withoutTokens x p true .owner ≡ Away
-  -- a message of plain tokens has none, and the sender's stays as it is
-  pub plain-sent : (x : Cell) (c b t p : ℕ) (d : Bool) → message x c b t p false d .header .owner ≡ Away
-  pub plain-kept : (x : Cell) (p : ℕ) → withoutTokens x p false .owner ≡ x .owner
-  -- delivered to home it is clean, to a board it is as it was; plain tokens leave the target's
-  pub home : (x : Cell) (m : Message) → isHome (m .header .target) ≡ true → present (m .header .owner) ≡ true → withTokens x m .owner ≡ Clean
-  pub board : (x : Cell) (m : Message) → isHome (m .header .target) ≡ false → present (m .header .owner) ≡ true → withTokens x m .owner ≡ m .header .owner
-  pub plain-delivered : (x : Cell) (m : Message) → m .header .owner ≡ Away → withTokens x m .owner ≡ x .owner
+use Rattle.spec_rack.specs.Examples.{code, givenBack}
 
 -- ---- before: document 01's send, with 12 for every owner without data, and its deliver, which makes valid by data alone. Every other step is by the rules
 -- of today; marks change as they do today, and these rules never ask for them.
@@ -176,3 +160,11 @@ pub record AsBefore : Type 0 where
   -- and a list without such steps has the same replies and leaves the same rack
   pub list : (r : Rack) (ss : List Step) → noneBare r ss ≡ true
       → (rackReplies r ss ≡ repliesOf afterBeforeBare replyBeforeBare r ss) × (run r ss ≡ runAll afterBeforeBare r ss)
+
+-- ---- an example by the rules before: of `givenBack` every owner without data was refused with 12; so board 2 kept the block, and home had no token for
+-- board 1
+
+abbrev pub GivenBackBefore : Type 0
+GivenBackBefore =
+    map code (repliesOf afterBeforeBare replyBeforeBare (fresh 2 1 3) givenBack)
+    ≡ 0 ∷ 0 ∷ 0 ∷ 12 ∷ 0 ∷ 0 ∷ 0 ∷ 0 ∷ 0 ∷ 12 ∷ 12 ∷ 0 ∷ 14 ∷ 11 ∷ 14 ∷ 5 ∷ []

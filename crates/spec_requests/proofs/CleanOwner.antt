@@ -14,25 +14,25 @@ use Rattle.spec_wire.specs.declared.Check.the-variants.{Pass}
 use Rattle.spec_wire.specs.Refusals.{when_refuse_else_}
 use Rattle.spec_wire.specs.declared.Step.{Step}
 use Rattle.spec_wire.specs.declared.Step.the-variants.{Load, Store, Send, Deliver, Raise, Lower, Forward}
 use Rattle.spec_rack.specs.declared.Owner.{Owner}
 use Rattle.spec_rack.specs.declared.Owner.the-variants.{Clean, Dirty}
 use Rattle.spec_rack.specs.declared.Answer.{Answer}
 use Rattle.spec_rack.specs.declared.Reply.the-variants.{Refused}
 use Rattle.spec_rack.specs.Rack.{Cell, Rack, noCell, noMessage, fresh, blockAt, cellAt, messageAt, present, mayGoBare}
 use Rattle.spec_rack.specs.Soundness.{soundContents, sound, sizes}
 use Rattle.spec_rack.specs.Rules.{Outcome, accepted, settled, check, after, answer, rules, sent, withTokens, delivered, offRack, reply, rackAfter}
 use Rattle.spec_rack.specs.FlatMemory.{Memory, blank, memoryAfter}
 use Rattle.spec_rack.specs.Lists.{ruledReply, ruledAfter, run, rackReplies, rackAccesses, runAll, repliesOf, stepsOf}
-use Rattle.spec_rack.specs.CleanOwner.{replyBeforeBare, afterBeforeBare, rulesBeforeBare, BareSends, HomeReceives, CleanIn, in-component, in-flight, CleanHome, CleanHomeBytes, NeverDirtyAtHome, isBare, noneBare, AsBefore}
+use Rattle.spec_requests.specs.CleanOwner.{replyBeforeBare, afterBeforeBare, rulesBeforeBare, BareSends, HomeReceives, CleanIn, in-component, in-flight, CleanHome, CleanHomeBytes, NeverDirtyAtHome, isBare, noneBare, AsBefore}
 use Rattle.spec_rack.proofs.SoundnessFacts.{Sound, sound-facts}
 use Rattle.spec_rack.proofs.OwnerMarks.{joined-home}
 use Rattle.spec_rack.proofs.OwnerLaws.{NotDirty}
 use Rattle.spec_rack.proofs.BlockInvariant.{all-anywhere, HomeHas, CleanCell, CleanMessage, Coherent, message-sound, cell-sound, home-after}
 use Rattle.spec_rack.proofs.StepPreservation.{inN, inB}
 use Rattle.spec_rack.proofs.FreshRack.{opened}
 use Rattle.spec_rack.proofs.ListCoherence.{run-fresh}
 use Rattle.spec_rack.proofs.Coherence.{from-opening}
-use Rattle.spec_rack.proofs.HomeLoads.{any-rack}
+use Rattle.spec_requests.proofs.HomeLoads.{any-rack}
 
 -- a send's lines by their tests, where `bare` is that of 12 and `refusal` what it gives
 abbrev lines : Refusal → Bool → Bool → Bool → Bool → Bool → Bool → Bool → Bool → Check

@@ -19,34 +19,34 @@ use Rattle.spec_wire.specs.declared.Check.the-variants.{Pass, Refuse}
 use Rattle.spec_wire.specs.declared.Step.{Step}
 use Rattle.spec_wire.specs.declared.Step.the-variants.{Store, Send}
 use Rattle.spec_wire.specs.Refusals.{when_refuse_else_}
 use Rattle.spec_rack.specs.declared.Owner.{Owner}
 use Rattle.spec_rack.specs.declared.Owner.the-variants.{Dirty}
 use Rattle.spec_rack.specs.declared.Answer.{Answer}
 use Rattle.spec_rack.specs.declared.Answer.the-variants.{Done}
 use Rattle.spec_rack.specs.declared.Reply.the-variants.{Accepted}
 use Rattle.spec_rack.specs.declared.Letter.{Letter}
 use Rattle.spec_rack.specs.declared.Letter.the-variants.{M, O, E, S, I}
 use Rattle.spec_rack.specs.declared.Lettered.{Lettered}
 use Rattle.spec_rack.specs.declared.Lettered.the-variants as Lettered
 use Rattle.spec_rack.specs.Rack.{Cell, Rack, noCell, isHome, present, clean, owners, mayGoBare, fresh, blockAt, cellAt, held}
 use Rattle.spec_rack.specs.Rules.{settled, check, after, answer, rules, stored, withWord, offRack, pastWords, reply, rackAfter}
 use Rattle.spec_rack.specs.FlatMemory.{Memory, blank, memoryAfter}
 use Rattle.spec_rack.specs.Soundness.{sizes, soundBytes}
 use Rattle.spec_rack.specs.RecordLayout.{get}
 use Rattle.spec_rack.specs.Opening.{openAfter}
 use Rattle.spec_rack.specs.Lists.{ruledReply, ruledAfter, run, rackAccesses, stepsOf, after as bufferAfter}
 use Rattle.spec_rack.specs.Letter.{letterCheck, letterOf, lettered, letter, letterReply}
-use Rattle.spec_rack.specs.Exclusive.{Shows, letterOfBefore, letterBefore, letterReplyBefore, withoutE, replyWithoutE, mayStore, WhereShown, CanStore, Stores, Exclusive, OnlyCopy, HasOnlyCopy, MeansExclusive, MeansExclusiveBytes, GoesHomeBare, AsBefore}
+use Rattle.spec_requests.specs.Exclusive.{Shows, letterOfBefore, letterBefore, letterReplyBefore, withoutE, replyWithoutE, mayStore, WhereShown, CanStore, Stores, Exclusive, OnlyCopy, HasOnlyCopy, MeansExclusive, MeansExclusiveBytes, GoesHomeBare, AsBefore}
 use Rattle.spec_rack.proofs.SoundnessFacts.{Sound, sound-facts}
 use Rattle.spec_rack.proofs.BlockInvariant.{CleanCell, CleanMessage, HomeHas, Coherent, cell-in, cell-sound, cell-is, cell-has, cell-changed}
 use Rattle.spec_rack.proofs.OwnerMarks.{marks}
 use Rattle.spec_rack.proofs.OwnerLaws.{is-clean, is-dirty}
 use Rattle.spec_rack.proofs.ExclusiveStore.{alone, quiet, owner-here}
 use Rattle.spec_rack.proofs.StepPreservation.{inN, inB}
 use Rattle.spec_rack.proofs.FreshRack.{opened}
 use Rattle.spec_rack.proofs.ListCoherence.{run-fresh}
 use Rattle.spec_rack.proofs.SoundRecord.{sound-of}
 use Rattle.spec_rack.proofs.Coherence.{from-opening}
 
 -- ---- what stays
 

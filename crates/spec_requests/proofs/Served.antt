@@ -16,24 +16,24 @@ use Rattle.spec_wire.specs.Refusals.{when_refuse_else_}
 use Rattle.spec_wire.specs.declared.Reading.the-variants.{Step as Read}
 use Rattle.spec_wire.specs.Reader.{readRecord}
 use Rattle.spec_base.specs.Folds.{removeAt}
 use Rattle.spec_rack.specs.declared.Answer.{Answer}
 use Rattle.spec_rack.specs.declared.Answer.the-variants.{Done, Word, Served}
 use Rattle.spec_rack.specs.declared.Reply.the-variants.{Accepted}
 use Rattle.spec_rack.specs.declared.Message.{Message}
 use Rattle.spec_rack.specs.Rack.{Cell, Rack, cellAt, messageAt, held}
 use Rattle.spec_rack.specs.Rules.{withTokens, delivered, pastMesh, accepted, settled, check, answer, after, rules, reply, replyOf}
 use Rattle.spec_rack.specs.RecordLayout.{get}
 use Rattle.spec_rack.specs.Soundness.{soundBytes}
 use Rattle.spec_rack.specs.Entries.{stepAfter}
 use Rattle.spec_rack.specs.Opening.{openCheck, openReply}
 use Rattle.spec_rack.specs.Effects.{AcceptedAs}
 use Rattle.spec_rack.specs.Lists.{repliesOf, ruledAfter, rackReplies}
-use Rattle.spec_rack.specs.Served.{Serves, Names, SaysWhom, ServedBy, EveryServed, answerBefore, replyBefore, withoutServed, AsBefore}
+use Rattle.spec_requests.specs.Served.{Serves, Names, SaysWhom, ServedBy, EveryServed, answerBefore, replyBefore, withoutServed, AsBefore}
 use Rattle.spec_rack.proofs.SoundnessFacts.{Sound, sound-facts}
 use Rattle.spec_rack.proofs.BlockInvariant.{message-sound, cell-after, cell-changed}
 use Rattle.spec_rack.proofs.TokenConservation.{delivered-held}
 use Rattle.spec_rack.proofs.SoundRecord.{rack-sound}
 use Rattle.spec_rack.proofs.Effects.{every-step}
 
 -- ---- whom it served
 

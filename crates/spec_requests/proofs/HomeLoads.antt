@@ -21,25 +21,25 @@ use Rattle.spec_wire.specs.declared.Step.the-variants.{Load, Store, Send, Deliv
 use Rattle.spec_wire.specs.declared.Reading.{Reading}
 use Rattle.spec_wire.specs.declared.Reading.the-variants.{Step as Read, Refused as NoStep}
 use Rattle.spec_wire.specs.Reader.{readRecord}
 use Rattle.spec_rack.specs.declared.Answer.{Answer}
 use Rattle.spec_rack.specs.declared.Answer.the-variants.{Word}
 use Rattle.spec_rack.specs.declared.Reply.{Reply}
 use Rattle.spec_rack.specs.declared.Reply.the-variants.{Accepted, Refused}
 use Rattle.spec_rack.specs.Rack.{Cell, Rack, cellAt, held}
 use Rattle.spec_rack.specs.Rules.{Outcome, refused, settled, check, after, answer, rules, offRack, pastWords, reply, rackAfter}
 use Rattle.spec_rack.specs.Letter.{letterCheck, letterOf, lettered, letter}
 use Rattle.spec_rack.specs.RecordLayout.{get, put}
 use Rattle.spec_rack.specs.Soundness.{soundBytes}
 use Rattle.spec_rack.specs.Entries.{bufferAfterOutcome, outcomeBy, stepReply, stepAfter}
 use Rattle.spec_rack.specs.Lists.{runAll, ruledReply, ruledAfter}
-use Rattle.spec_rack.specs.HomeLoads.{loadCheckBefore, rulesBefore, ruledReplyBefore, ruledAfterBefore, stepReplyBefore, stepAfterBefore, isHomeLoad, isHomeLoadIn, OrdinaryLoad, ValidLoads, SameList, SameOnRacks, SameOnBytes, StillRefused}
+use Rattle.spec_requests.specs.HomeLoads.{loadCheckBefore, rulesBefore, ruledReplyBefore, ruledAfterBefore, stepReplyBefore, stepAfterBefore, isHomeLoad, isHomeLoadIn, OrdinaryLoad, ValidLoads, SameList, SameOnRacks, SameOnBytes, StillRefused}
 use Rattle.spec_rack.proofs.SoundnessFacts.{sound-facts}
 use Rattle.spec_rack.proofs.BlockInvariant.{cell-sound}
 use Rattle.spec_rack.proofs.StepPreservation.{inN, inB}
 use Rattle.spec_rack.proofs.GetPut.{put-get}
 use Rattle.spec_rack.proofs.SoundRecord.{live-of}
 use Rattle.spec_rack.proofs.ByteLists.{runs}
 use Rattle.spec_rack.proofs.Effects.{every-list}
 
 -- ---- one load, with the line of home and without it
 

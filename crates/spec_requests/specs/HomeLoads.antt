@@ -3,7 +3,7 @@
 use Prim.Native.Nat.{ℕ, _<_}
 use mathlib.Core.Path.{_≡_}
 use mathlib.Core.Bool.{Bool, true, false, not, cond, _||_}
-use mathlib.Core.List.{List}
+use mathlib.Core.List.{List, [], _∷_, map}
 use lib.ListN.{getD}
 use lib.Dec.{eqb}
 use Rattle.spec_base.specs.Number.{Bytes}
@@ -16,17 +16,18 @@ use Rattle.spec_wire.specs.declared.Step.the-variants.{Load, Store, Send, Deliv
 use Rattle.spec_wire.specs.declared.Reading.{Reading}
 use Rattle.spec_wire.specs.declared.Reading.the-variants.{Step as Read, Refused as NoStep}
 use Rattle.spec_wire.specs.Reader.{readRecord}
 use Rattle.spec_rack.specs.declared.Answer.{Answer}
 use Rattle.spec_rack.specs.declared.Answer.the-variants.{Word}
 use Rattle.spec_rack.specs.declared.Reply.{Reply}
 use Rattle.spec_rack.specs.declared.Reply.the-variants.{Accepted, Refused}
 use Rattle.spec_rack.specs.declared.Lettered.the-variants as Lettered
-use Rattle.spec_rack.specs.Rack.{Rack, isHome, cellAt, held}
+use Rattle.spec_rack.specs.Rack.{Rack, fresh, isHome, cellAt, held}
 use Rattle.spec_rack.specs.Soundness.{sound}
 use Rattle.spec_rack.specs.Rules.{Outcome, settled, rules, offRack, pastWords, reply, rackAfter}
 use Rattle.spec_rack.specs.Letter.{letter}
 use Rattle.spec_rack.specs.Entries.{bufferAfterOutcome, outcomeBy, stepReply, stepAfter}
-use Rattle.spec_rack.specs.Lists.{runAll, ruledReply, ruledAfter}
+use Rattle.spec_rack.specs.Lists.{runAll, repliesOf, ruledReply, ruledAfter}
+use Rattle.spec_rack.specs.Examples.{code, homeReads}
 
 -- ---- before: a load as document 01 has it, with 4 at home; every other step by the rules of today
 
@@ -119,3 +120,9 @@ pub record StillRefused : Type 0 where
   pub raise : (r : Rack) (b : ℕ) → ruledReply r (Raise 0 b) ≡ Refused (cond (offRack r 0 b) OffRack Home)
   pub lower : (r : Rack) (b : ℕ) → ruledReply r (Lower 0 b) ≡ Refused (cond (offRack r 0 b) OffRack Home)
   pub letter-at-home : (r : Rack) (b : ℕ) → letter r 0 b ≡ Lettered.Refused (cond (offRack r 0 b) OffRack Home)
+
+-- ---- an example by the rules before: of `homeReads` the four loads at home that are on the rack were refused with 4
+
+abbrev pub ReadsBefore : Type 0
+ReadsBefore =
+    map code (repliesOf ruledAfterBefore ruledReplyBefore (fresh 2 1 3) homeReads) ≡ 4 ∷ 0 ∷ 4 ∷ 0 ∷ 0 ∷ 0 ∷ 0 ∷ 4 ∷ 0 ∷ 0 ∷ 4 ∷ 4 ∷ 4 ∷ 4 ∷ 3 ∷ 3 ∷ 3 ∷ []

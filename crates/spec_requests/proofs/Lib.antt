@@ -1,0 +1,5 @@
+pub mod Served
+pub mod HomeLoads
+pub mod CleanOwner
+pub mod Exclusive
+pub mod BeforeExamples

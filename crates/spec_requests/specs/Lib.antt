@@ -1,0 +1,4 @@
+pub mod Served
+pub mod HomeLoads
+pub mod CleanOwner
+pub mod Exclusive
