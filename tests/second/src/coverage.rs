@@ -155,6 +155,11 @@ pub struct Coverage {
     damaged_sound: u64,
     pub runs: u64,
     pub run_steps: u64,
+    /// Of what was worked by hand: situations, their lines, letters of boards, and letters refused at home and off the rack.
+    pub situations: u64,
+    pub hand_lines: u64,
+    pub hand_letters: u64,
+    pub hand_refused: u64,
     /// Letters shown in all, and those of lists by the rack's N, B and T.
     shown: [u64; LETTERS.len()],
     by_rack: BTreeMap<(u32, u32, u32), [u64; LETTERS.len()]>,
@@ -276,6 +281,10 @@ impl Coverage {
         self.damaged_sound += other.damaged_sound;
         self.runs += other.runs;
         self.run_steps += other.run_steps;
+        self.situations += other.situations;
+        self.hand_lines += other.hand_lines;
+        self.hand_letters += other.hand_letters;
+        self.hand_refused += other.hand_refused;
         add_each(&mut self.shown, other.shown);
         for (&sizes, &shown) in &other.by_rack {
             add_each(self.by_rack.entry(sizes).or_default(), shown);
@@ -299,6 +308,10 @@ impl Coverage {
         println!("{} damaged records, {} of them sound", self.damaged, self.damaged_sound);
         println!("marks of damaged records: {}", named(&owners::DAMAGED, &self.marks));
         println!("{} runs of {} steps", self.runs, self.run_steps);
+        println!(
+            "{} lines worked by hand in {} situations; {} letters of boards, {} refused at home and off the rack",
+            self.hand_lines, self.situations, self.hand_letters, self.hand_refused
+        );
         self.delivered.print();
         println!("steps at home: {}", named(&AT_HOME, &self.at_home));
         println!("owners: {}", named(&owners::MET, &self.owners));
@@ -332,6 +345,9 @@ impl Coverage {
                     gaps.push(format!("{sizes:?} showed {letter}, which it cannot"));
                 }
             }
+        }
+        if self.hand_lines == 0 || self.hand_letters == 0 {
+            gaps.push("no lines or no letters worked by hand".into());
         }
         gaps.extend(missing(&letters::SORTS, &self.letter_sorts).map(|sort| format!("no {sort}")));
         gaps.extend(missing(&letters::CHANGED, &self.changed).map(|sort| format!("no {sort}")));

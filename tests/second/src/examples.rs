@@ -38,15 +38,17 @@ pub struct Example {
 }
 
 /// Whom a deliver served, in rackrun's words and as one number: both by hand, so that no program's packing is taken for granted.
-pub const SERVED: [(&str, u64); 10] = [
+pub const SERVED: [(&str, u64); 12] = [
     ("d0.0", 0x0400_0000_0000_0000),
     ("d0.10", 0x0400_000a_0000_0000),
     ("d0.31", 0x0400_001f_0000_0000),
     ("d1.0", 0x0401_0000_0000_0000),
+    ("d1.1", 0x0401_0001_0000_0000),
     ("d2.0", 0x0402_0000_0000_0000),
     ("d2.1", 0x0402_0001_0000_0000),
     ("d3.0", 0x0403_0000_0000_0000),
     ("d3.10", 0x0403_000a_0000_0000),
+    ("d15.0", 0x040f_0000_0000_0000),
     ("d15.30", 0x040f_001e_0000_0000),
     ("d15.31", 0x040f_001f_0000_0000),
 ];

@@ -2,6 +2,7 @@
 
 pub mod best;
 pub mod blind;
+pub mod by_hand;
 pub mod calls;
 pub mod coverage;
 pub mod deliveries;

@@ -1,6 +1,6 @@
-//! Compares the proved engine, and the two engines of the benchmark, `tuned` and `best`, with the model: call by call, over lists, deliveries from
-//! a filled mesh, openings, state letters, torn steps, short buffers, damaged records, runs, and the reader and writer. It stops at the first
-//! difference with a case that `--replay` takes.
+//! Compares the proved engine, and the two engines of the benchmark, `tuned` and `best`, with the model: call by call, over examples, letters
+//! worked by hand, lists, deliveries from a filled mesh, openings, state letters, torn steps, short buffers, damaged records, runs, and the reader
+//! and writer. It stops at the first difference with a case that `--replay` takes.
 
 mod compare;
 
@@ -52,8 +52,9 @@ fn compare(options: &Options) -> Result<(), String> {
     let &Options { seed, steps, .. } = options;
     let long = steps >= 2_000_000;
     let lists: [Stage; 2] = [("lists", &|harness| harness.lists(steps)), ("deliveries", &|harness| harness.deliveries(steps / 20))];
-    let rest: [Stage; 10] = [
+    let rest: [Stage; 11] = [
         ("examples", &Harness::examples),
+        ("by hand", &Harness::by_hand),
         ("lengths", &Harness::lengths),
         ("openings", &Harness::openings),
         ("all states", &|harness| harness.all_states(long)),

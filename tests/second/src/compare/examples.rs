@@ -49,7 +49,7 @@ impl Harness {
     }
 }
 
-fn stated(name: &str, says: &str, result: u64) -> Result<(), String> {
+pub(super) fn stated(name: &str, says: &str, result: u64) -> Result<(), String> {
     let number = result as u32;
     let said = match result >> 56 {
         0 => "ok".into(),

@@ -7,6 +7,7 @@ use second::model::{self, Rack};
 use second::record;
 use second::rng::Rng;
 
+mod by_hand;
 mod damage;
 mod deliveries;
 mod examples;
