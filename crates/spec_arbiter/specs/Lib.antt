@@ -1,3 +1,4 @@
 pub mod Boards
 pub mod Claims
+pub mod SetLaws
 pub mod Bypass
