@@ -1,5 +1,5 @@
 -- Reading fields at their places: what was seen of each of a kind's fields decides what the body reads as.
-use Prim.Native.Nat.{ℕ, _+_, _*_, _%_, _≤_, _<_}
+use Prim.Native.Nat.{ℕ, zero, suc, _+_, _*_, _%_, _≤_, _<_}
 use native.Mathlib.Omega.{arith}
 use mathlib.Core.Path.{_≡_, refl, sym, ap, _∙_, subst}
 use mathlib.Core.Bool.{Bool, true, false, cond, _&&_}
@@ -7,9 +7,9 @@ use mathlib.Core.List.{List, [], _∷_}
 use lib.Dec.{eqb, ltb}
 use lib.ListN.{length, getD, set, take, drop, length-drop}
 use lib.Seq.{drop-drop}
-use borrow.Author.Tests.{eq-eqb, eqb-true, ltb-true, le-leb}
+use borrow.Author.Tests.{eq-eqb, ne-eqb, eqb-true, ltb-true, le-leb}
 use mathlib.Core.Logic.{⊎-elim}
-use Rattle.spec_base.proofs.Tests.{differs, either, same-test, and-l, and-r, and-true}
+use Rattle.spec_base.proofs.Tests.{differs, either, lt-or-le, same-test, and-l, and-r, and-true}
 use Rattle.spec_base.specs.Number.{Bytes, number}
 use Rattle.spec_base.proofs.Numbers.{four}
 use Rattle.spec_wire.specs.declared.Refusal.the-variants.{Torn}
@@ -18,7 +18,8 @@ use Rattle.spec_wire.specs.Kinds.{kindOf, fieldOf, noField}
 use Rattle.spec_wire.specs.StepRecord.{fieldSize, fieldSizes}
 use Rattle.spec_wire.specs.declared.Reading.the-variants.{Step as Read, Refused}
 use Rattle.spec_wire.specs.Reader.{hasHeader, valueAt, fieldParses, bodyParses, fieldValues, readBody}
-use Rattle.wire_reader.specs.Parsing.{FieldRoom, FieldParsed}
+use Rattle.wire_reader.specs.Parsing.{TagSeen, FieldRoom, FieldParsed}
+use Rattle.spec_wire.proofs.KindTable.{tag-unknown}
 use Rattle.spec_wire.proofs.Fields.{filled}
 use Rattle.spec_wire.proofs.BodyTrips.{torn-body, step-body}
 use Rattle.spec_base.specs.Layout.{slice, big}
@@ -58,11 +59,54 @@ module _ (f : Field) (s : List ℕ) (at : ℕ) (r : FieldRoom f at s) where
 pub field-seen : (f : Field) (bs : List ℕ) (h t : Bool) (v : ℕ) → h ≡ hasHeader f bs → v ≡ valueAt f bs → t ≡ (h && ltb v (f .limit)) → FieldParsed f bs t v
 field-seen f bs h t v eh ev et = record { parses = et ∙ (λ i. eh i && ltb (ev i) (f .limit)); value = λ _. sym ev }
 
--- what has a tag that is no field's
-pub none-seen : (t : ℕ) (bs : List ℕ) → fieldOf t ≡ noField → FieldParsed (fieldOf t) bs false 0
-none-seen t bs e =
-    subst (λ (f : Field). FieldParsed f bs false 0) (sym e)
-    (record { parses = ⊎-elim (λ h. absurd (omega (arith, ltb-true (valueAt noField bs) 0 (and-r (hasHeader noField bs) _ h)))) (λ h. sym h) (either (fieldParses noField bs)); value = λ h. differs (sym h) })
+-- where no value is below the limit, nothing parses
+none-seen : (bs : List ℕ) (h t : Bool) (v : ℕ) → t ≡ (h && ltb v 0) → FieldParsed noField bs t v
+none-seen bs h t v e =
+    let never : t ≡ false = ⊎-elim (λ (u : t ≡ true). absurd (omega (arith, ltb-true v 0 (and-r h _ (sym e ∙ u))))) (λ u. u) (either t) in
+    record {
+      parses = never ∙ ⊎-elim (λ u. absurd (omega (arith, ltb-true (valueAt noField bs) 0 (and-r (hasHeader noField bs) _ u)))) (λ u. sym u) (either (fieldParses noField bs));
+      value = λ u. differs (sym u ∙ never);
+    }
+
+-- the field of a tag of the table has this tag
+tag-own : (t : ℕ) → 1 ≤ t → t ≤ 9 → fieldOf t .tag ≡ t
+unfolding fieldOf
+tag-own zero a b = absurd (omega arith)
+tag-own (suc zero) a b = refl
+tag-own (suc (suc zero)) a b = refl
+tag-own (suc (suc (suc zero))) a b = refl
+tag-own (suc (suc (suc (suc zero)))) a b = refl
+tag-own (suc (suc (suc (suc (suc zero))))) a b = refl
+tag-own (suc (suc (suc (suc (suc (suc zero)))))) a b = refl
+tag-own (suc (suc (suc (suc (suc (suc (suc zero))))))) a b = refl
+tag-own (suc (suc (suc (suc (suc (suc (suc (suc zero)))))))) a b = refl
+tag-own (suc (suc (suc (suc (suc (suc (suc (suc (suc zero))))))))) a b = refl
+tag-own (suc (suc (suc (suc (suc (suc (suc (suc (suc (suc k)))))))))) a b = absurd (omega arith)
+
+-- a byte out of the table's range is none of its tags
+pub tag-below : (tag byte : ℕ) → byte < 1 → TagSeen tag byte false
+tag-below tag byte l low high = sym (ne-eqb byte tag (λ e. omega (arith, e)))
+
+pub tag-above : (tag byte : ℕ) → 9 < byte → TagSeen tag byte false
+tag-above tag byte l low high = sym (ne-eqb byte tag (λ e. omega (arith, e)))
+
+-- a field by what was seen of its tag, its length low byte first, and its value
+pub tag-seen : (tag : ℕ) (s : List ℕ) (at : ℕ) → FieldRoom (fieldOf tag) at s → Bytes s → (turn long h t : Bool) (v : ℕ) → TagSeen tag (getD s at 0) turn
+    → long ≡ eqb (getD s (at + 1) 0 + getD s (at + 2) 0 * 256) (fieldOf tag .width * 256) → h ≡ (turn && long) → v ≡ valueAt (fieldOf tag) (drop at s)
+    → t ≡ (h && ltb v (fieldOf tag .limit)) → FieldParsed (fieldOf tag) (drop at s) t v
+tag-seen tag s at room bytes turn long h t v et el eh ev e =
+    ⊎-elim (λ (l : tag < 1). unknown (λ k a b q. omega arith))
+    (λ (l : 1 ≤ tag). ⊎-elim (λ (m : 9 < tag). unknown (λ k a b q. omega arith)) (λ (m : tag ≤ 9). known l m) (lt-or-le 9 tag)) (lt-or-le tag 1)
+  where
+    known : 1 ≤ tag → tag ≤ 9 → FieldParsed (fieldOf tag) (drop at s) t v
+    known l m =
+        field-seen (fieldOf tag) (drop at s) h t v
+        (eh ∙ (λ i. (et l m ∙ ap (eqb (getD s at 0)) (sym (tag-own tag l m))) i && el i) ∙ header-seen (fieldOf tag) s at room bytes) ev e
+
+    unknown : ((k : ℕ) → 1 ≤ k → k ≤ 9 → tag ≡ k → ⊥) → FieldParsed (fieldOf tag) (drop at s) t v
+    unknown out =
+        let none = tag-unknown tag out in
+        subst (λ (g : Field). FieldParsed g (drop at s) t v) (sym none) (none-seen (drop at s) h t v (e ∙ ap (λ (g : Field). h && ltb v (g .limit)) none))
 
 -- a value of one byte is its low byte
 pub low-seen : (f : Field) (bs : List ℕ) (t : Bool) (v : ℕ) → f .limit ≤ 256 → FieldParsed f bs t v → FieldParsed f bs t (v % 256)

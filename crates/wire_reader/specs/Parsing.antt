@@ -4,6 +4,7 @@ use mathlib.Core.Path.{_≡_}
 use mathlib.Core.Bool.{Bool, true, cond}
 use mathlib.Core.List.{List}
 use mathlib.Core.Logic.{_⊎_}
+use lib.Dec.{eqb}
 use lib.ListN.{length}
 use Rattle.spec_wire.specs.declared.Refusal.the-variants.{Torn}
 use Rattle.spec_wire.specs.declared.Field.{Field}
@@ -12,6 +13,10 @@ use Rattle.spec_wire.specs.declared.Reading.the-variants.{Step, Refused}
 use Rattle.wire_reader.specs.declared.body.Parsed.{Parsed}
 use Rattle.spec_wire.specs.StepRecord.{fieldSize}
 use Rattle.spec_wire.specs.Reader.{fieldParses, valueAt}
+
+-- t says whether a byte is this tag, which is one of the table
+abbrev pub TagSeen : ℕ → ℕ → Bool → Type 0
+TagSeen tag byte t = 1 ≤ tag → tag ≤ 9 → t ≡ eqb byte tag
 
 -- the bytes have room for the field at `at`, and its value is one byte or four
 pub record FieldRoom (f : Field) (at : ℕ) (bs : List ℕ) : Type 0 where
