@@ -148,7 +148,7 @@ every-list s steps h =
 pub every-run : EveryRun
 every-run rec list at out made rec′ at′ out′ h ran =
     let l = every-list rec (framesFrom list at out) h in
-    (subst (Steady rec) (sym (ran .buffer)) (l .steady), λ ok. ap get (ran .buffer) ∙ l .if-sound ok)
+    (subst (Steady rec) (sym (ran .buffer)) (l .steady), ((λ ok. ap get (ran .buffer) ∙ l .if-sound ok), (λ bad. ran .buffer ∙ l .if-unsound bad)))
 
 -- ---- an opening
 

@@ -78,8 +78,9 @@ EveryOpening = (n b t : ℕ) (s : List ℕ) → Bytes s → OpeningLeaves n b t 
 
 -- ---- a run over the records of one slice
 
--- What a run leaves of every buffer: nothing behind the record changes, and a sound record has the rack to which the steps among the records take it.
+-- What a run leaves of every buffer: nothing behind the record changes, a sound record has the rack to which the steps among the step records take it, and an
+-- unsound one stays as it is.
 abbrev pub EveryRun : Type 0
 EveryRun =
     (rec list : List ℕ) (at : ℕ) (out : List ℕ) (made : ℕ) (rec′ : List ℕ) (at′ : ℕ) (out′ : List ℕ) → Bytes rec → RunResult rec list at out made rec′ at′ out′
-    → Steady rec rec′ × (soundBytes rec ≡ true → get rec′ ≡ run (get rec) (stepsOf (framesFrom list at out)))
+    → Steady rec rec′ × ((soundBytes rec ≡ true → get rec′ ≡ run (get rec) (stepsOf (framesFrom list at out))) × (soundBytes rec ≡ false → rec′ ≡ rec))

@@ -10,7 +10,7 @@ use Rattle.spec_base.specs.Layout.{slice, big}
 use Rattle.spec_wire.specs.declared.Step.the-variants.{Store, Send, Deliver, Raise, Lower}
 use Rattle.spec_rack.specs.declared.Owner.{Owner}
 use Rattle.spec_rack.specs.declared.Owner.the-variants.{Away, Dirty, Clean}
-use Rattle.spec_rack.specs.Rack.{Rack, present, zeros, fresh}
+use Rattle.spec_rack.specs.Rack.{Rack, present, fresh}
 use Rattle.spec_rack.specs.Soundness.{soundBytes}
 use Rattle.spec_rack.specs.Lists.{run}
 use Rattle.spec_rack.specs.RecordLayout.{get, put}
@@ -98,7 +98,7 @@ damaged s l = map (λ p. soundBytes (set s (p .0) (p .1))) l
 
 -- where the only block of `small` starts
 abbrev pub block : ℕ
-block = 2592
+block = 32 + 64 * 40
 
 pub record RecordBytes : Type 0 where
   pub small-length : length smallRecord ≡ 3224
@@ -124,7 +124,7 @@ pub record RecordBytes : Type 0 where
 pub record Offsets : Type 0 where
   -- a message of any header
   pub message : (c k b p : ℕ) (o : Owner) (d : Bool)
-      → map (λ at. getD (layout.message .write (record { header = record { sender = c; target = k; block = b; plain = p; owner = o; «data» = d }; words = zeros }) (room 40)) at 0)
+      → map (λ at. getD (layout.message .write (record { header = record { sender = c; target = k; block = b; plain = p; owner = o; «data» = d }; words = replicate 8 0x01010101 }) (room 40)) at 0)
       (layout.senderOffset ∷ layout.targetOffset ∷ layout.messageBlockOffset ∷ layout.messagePlainOffset ∷ layout.messageOwnerOffset ∷ layout.dataOffset
       ∷ layout.messageDirtyOffset ∷ layout.messageZeroOffset ∷ [])
       ≡ c ∷ k ∷ b ∷ p ∷ toℕ (present o) ∷ toℕ d ∷ toℕ (layout.dirty o) ∷ 0 ∷ []

@@ -30,8 +30,8 @@ pub enum Lettered {
     Refused(Refusal),
 }
 
-// The owner token of a block, as a component or a message has it: there with its mark, or away. A dirty owner's block was stored to since the owner was
-// last at home. The order is the one with the fewest instructions; no byte depends on it.
+// The owner token of a block, as a component or a message has it: there with its mark, or away. Dirty: on every record that an opening led to, the block
+// was stored to since the owner was last at home. No byte depends on the order of the three.
 pub enum Owner {
     Clean,
     Dirty,

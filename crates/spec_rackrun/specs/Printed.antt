@@ -11,7 +11,7 @@ use Rattle.spec_wire.specs.StepRecord.{stepBytes}
 use Rattle.spec_wire.specs.Readings.{listing}
 use Rattle.spec_rack.specs.declared.Answer.the-variants.{Done, Word, Served}
 use Rattle.spec_rack.specs.declared.Reply.the-variants.{Accepted, Refused}
-use Rattle.spec_rackrun.specs.Rackrun.{line, text}
+use Rattle.spec_rackrun.specs.Rackrun.{line}
 use Rattle.spec_rackrun.specs.RuledText.{ruledText}
 
 -- byte strings one after the other
@@ -39,8 +39,8 @@ pub record Printed : Type 0 where
   pub served : line 3 (Accepted (Served 3 10)) ≡ 51 ∷ 32 ∷ 100 ∷ 51 ∷ 46 ∷ 49 ∷ 48 ∷ 10 ∷ []
   pub served-largest : line 21845 (Accepted (Served 255 255)) ≡ 50 ∷ 49 ∷ 56 ∷ 52 ∷ 53 ∷ 32 ∷ 100 ∷ 50 ∷ 53 ∷ 53 ∷ 46 ∷ 50 ∷ 53 ∷ 53 ∷ 10 ∷ []
   -- under three bytes: "0 r1"; three and no good sizes: "0 r19", and nothing of the records behind
-  pub under-three : map (text []) ([] ∷ (2 ∷ []) ∷ (2 ∷ 1 ∷ []) ∷ []) ≡ replicate 3 (48 ∷ 32 ∷ 114 ∷ 49 ∷ 10 ∷ [])
-  pub bad-sizes : text [] (2 ∷ 1 ∷ 1 ∷ 0x13 ∷ 0 ∷ 4 ∷ 9 ∷ 0 ∷ 1 ∷ 0 ∷ []) ≡ 48 ∷ 32 ∷ 114 ∷ 49 ∷ 57 ∷ 10 ∷ []
+  pub under-three : map ruledText ([] ∷ (2 ∷ []) ∷ (2 ∷ 1 ∷ []) ∷ []) ≡ replicate 3 (48 ∷ 32 ∷ 114 ∷ 49 ∷ 10 ∷ [])
+  pub bad-sizes : ruledText (2 ∷ 1 ∷ 1 ∷ 0x13 ∷ 0 ∷ 4 ∷ 9 ∷ 0 ∷ 1 ∷ 0 ∷ []) ≡ 48 ∷ 32 ∷ 114 ∷ 49 ∷ 57 ∷ 10 ∷ []
   -- the paper's input, and its output, whole; line 2 is "2 d1.0", as document 02, No. 1, has it
   pub example :
       ruledText (0x02 ∷ 0x01 ∷ 0x03 ∷ joined listing)
