@@ -135,8 +135,9 @@ size_t hyl_run(uint8_t *rec, size_t rec_len, const uint8_t *list, size_t list_le
  *
  * A `switch` over the letter needs a case for each of the five. A board may store where it shows 'M' or 'E', so a caller that takes 'M' alone for "may
  * store" misses boards that have all tokens. A store makes 'E' 'M', also a store of the value that was there already. A board that shows 'E' may give
- * the block home bare, by a send with owner 1, data 0 and target 0: only HYL_CLAIMED and HYL_MESH_FULL can refuse it. Where it shows 'M', HYL_BARE_OWNER
- * does, unless HYL_CLAIMED comes first. 'O' does not say which mark the owner has: hyl_view_dirty of hyaloneth_view.h does.
+ * the block home bare, by a send with owner 1, data 0 and target 0: only HYL_CLAIMED, HYL_NOT_HELD (more plain tokens than the board holds) and
+ * HYL_MESH_FULL can refuse it, in that order. Where it shows 'M', HYL_BARE_OWNER does, unless HYL_CLAIMED or HYL_NOT_HELD comes first. 'O' does not say
+ * which mark the owner has: hyl_view_dirty of hyaloneth_view.h does.
  *
  * Refused with HYL_UNSOUND, HYL_OFF_RACK or HYL_HOME, in that order.
  *   rec, rec_len  the buffer that holds the record

@@ -49,7 +49,8 @@ impl fmt::Display for Reply {
 
 /// The state letter of a board and a block, by what the board holds of the block's T tokens.
 ///
-/// A board that gets a whole block shows E, and M once it has stored:
+/// A board that gets a whole block with a clean owner shows E, and M once it has stored; with a
+/// dirty owner it shows M at once:
 ///
 /// ```
 /// use hyaloneth::{Letter, Record, Refusal, Step};
