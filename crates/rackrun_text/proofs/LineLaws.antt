@@ -89,10 +89,6 @@ byte-width n w l e = omega (arith, ap length (decimal-three n (omega arith) ∙ 
 
 -- ---- what is said
 
-pub said-done : replyText (Accepted Done) ≡ 111 ∷ digits 32 1 20
-unfolding replyText digits
-said-done = refl
-
 pub said-word : (w : ℕ) → replyText (Accepted (Word w)) ≡ 118 ∷ digits 16 8 w
 unfolding replyText
 said-word w = refl
@@ -157,6 +153,18 @@ number-placed at last letter b k n end out out₁ h (p, q) = (
   placed-more at (at + 1) last (letter ∷ []) (digits b k n ++ end ∷ []) out (set out at letter) out₁ (omega arith)
       (refl, place-byte at letter out (omega arith)) (omega (arith, length-append (digits b k n) (end ∷ []), length-digits b k n), q) .1,
 )
+
+-- `ok`, byte by byte
+pub done-placed : (at : ℕ) (out : List ℕ) → at + 3 ≤ length out → Placed at (replyLine (Accepted Done)) out (at + 3) (set (set (set out at 111) (at + 1) 107) (at + 2) 10)
+unfolding replyText
+done-placed at out h =
+    let one : List ℕ = set out at 111 in
+    let two : List ℕ = set one (at + 1) 107 in
+    let l : length one ≡ length out = length-set out at 111 in
+    let l′ : length two ≡ length one = length-set one (at + 1) 107 in
+    placed-more at (at + 1) (at + 3) (111 ∷ []) (107 ∷ 10 ∷ []) out one _ (omega arith) (refl, place-byte at 111 out (omega arith))
+    (placed-more (at + 1) (at + 2) (at + 3) (107 ∷ []) (10 ∷ []) one two _ (omega arith) (omega arith, place-byte (at + 1) 107 one (omega arith))
+    (omega arith, place-byte (at + 2) 10 two (omega arith)))
 
 -- a reply with one number
 pub reply-placed : (at last letter b k n : ℕ) (r : Reply) (out out₁ : List ℕ) → replyText r ≡ letter ∷ digits b k n

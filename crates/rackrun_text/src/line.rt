@@ -10,7 +10,7 @@ use spec_rack::Reply;
 
 // A digit in ASCII.
 fn digit(n: u64) -> u8
-    requires { ⌜ n < 32 ⌝ }
+    requires { ⌜ n < 16 ⌝ }
     ensures { λ r. ⌜ r ≡ digit n ⌝ }
 {
     if n < 10 { 48 + n as u8 } else { 87 + n as u8 }
@@ -34,7 +34,7 @@ fn width(n: u64) -> usize
 
 // Places the lowest digits of a number from the last to the first, and a byte after them, and gives the offset behind it.
 fn put_digits(out: &mut [u8], at: usize, base: u64, count: usize, n: u64, end: u8) -> usize
-    requires { ⌜ (at + count < length (now out)) × (1 ≤ base) × (base ≤ 32) ⌝ }
+    requires { ⌜ (at + count < length (now out)) × (1 ≤ base) × (base ≤ 16) ⌝ }
     ensures { λ r. ⌜ (r ≡ at + count + 1) × (now (out .exit) ≡ place at (digits base count n ++ end ∷ []) (now (out .entry))) ⌝ }
 {
     out[at + count] = end;
@@ -58,7 +58,7 @@ fn put_number(
     n: u64,
     end: u8,
 ) -> usize
-    requires { ⌜ (at + 1 + count < length (now out)) × (1 ≤ base) × (base ≤ 32) ⌝ }
+    requires { ⌜ (at + 1 + count < length (now out)) × (1 ≤ base) × (base ≤ 16) ⌝ }
     ensures { λ r. ⌜ (r ≡ at + count + 2) × (now (out .exit) ≡ place at (letter ∷ (digits base count n ++ end ∷ [])) (now (out .entry))) ⌝ }
 {
     out[at] = letter;
@@ -76,14 +76,25 @@ fn put_served(out: &mut [u8], at: usize, component: u8, block: u8) -> usize
     put_digits(out, next, 10, width(second), second, b'\n')
 }
 
-// Places the text of a reply and the newline. Trick: `ok` is the letter `o` and one digit in base 32; digit 20 prints as `k`.
+// Places `ok` and the newline.
+fn put_done(out: &mut [u8], at: usize) -> usize
+    requires { ⌜ at + 10 ≤ length (now out) ⌝ }
+    ensures { λ r. ⌜ (r ≡ at + length (replyLine (Reply.Accepted Answer.Done))) × (now (out .exit) ≡ place at (replyLine (Reply.Accepted Answer.Done)) (now (out .entry))) ⌝ }
+{
+    out[at] = b'o';
+    out[at + 1] = b'k';
+    out[at + 2] = b'\n';
+    at + 3
+}
+
+// Places the text of a reply and the newline.
 fn put_reply(out: &mut [u8], at: usize, reply: Reply) -> usize
     requires { ⌜ at + 10 ≤ length (now out) ⌝ }
     ensures { λ r. ⌜ (r ≡ at + length (replyLine reply)) × (now (out .exit) ≡ place at (replyLine reply) (now (out .entry))) ⌝ }
 {
     match reply {
         Reply::Accepted(answer) => match answer {
-            Answer::Done => put_number(out, at, b'o', 32, 1, 20, b'\n'),
+            Answer::Done => put_done(out, at),
             Answer::Word(word) => put_number(out, at, b'v', 16, 8, word as u64, b'\n'),
             Answer::Served { component, block } => put_served(out, at, component, block),
         },
