@@ -52,17 +52,6 @@ module _ (x : Cell) (m : Message) where
       go false f g = g refl
 
   -- at most one of the two has the owner
-  more-has : (mem : Memory) (b : ℕ) → CellHas mem b x → (m .header .«data» ≡ true → m .words ≡ getD mem b [])
-      → (mayGoBare (m .header .owner) (m .header .target) ≡ true → x .words ≡ getD mem b []) → CellHas mem b (withTokens x m)
-  more-has mem b hx hm hb v = more-words (getD mem b []) hm (λ e. go (x .valid) (m .header .«data») _ v hx e (search hb))
-    where
-      -- without data the target was valid, or the owner came bare
-      go : (u d w : Bool) → (u || (d || w)) ≡ true → (u ≡ true → x .words ≡ getD mem b []) → d ≡ false → (w ≡ true → x .words ≡ getD mem b [])
-          → x .words ≡ getD mem b []
-      go true d w h f e g = f refl
-      go false true w h f e g = differs e
-      go false false w h f e g = g h
-
   module _ (once : cellOwners x + messageOwners m ≤ 1) where
     owners-more : cellOwners (withTokens x m) ≡ cellOwners x + messageOwners m
     owners-more = owners-joined (x .owner) (m .header .owner) (m .header .target) once
@@ -79,6 +68,18 @@ module _ (x : Cell) (m : Message) where
               or-keeps (present (x .owner)) (present (m .header .owner)) (x .valid) _ (sx .current) (search (sm .current))
               (present-joined (x .owner) (m .header .owner) (m .header .target) w);
         }
+
+  -- a valid cell still has the memory's words
+  more-has : (mem : Memory) (b : ℕ) → CellHas mem b x → (m .header .«data» ≡ true → m .words ≡ getD mem b [])
+      → (mayGoBare (m .header .owner) (m .header .target) ≡ true → x .words ≡ getD mem b []) → CellHas mem b (withTokens x m)
+  more-has mem b hx hm hb v = more-words (getD mem b []) hm (λ e. go (x .valid) (m .header .«data») _ v hx e (search hb))
+    where
+      -- without data the target was valid, or the owner came bare
+      go : (u d w : Bool) → (u || (d || w)) ≡ true → (u ≡ true → x .words ≡ getD mem b []) → d ≡ false → (w ≡ true → x .words ≡ getD mem b [])
+          → x .words ≡ getD mem b []
+      go true d w h f e g = f refl
+      go false true w h f e g = differs e
+      go false false w h f e g = g h
 
 -- ---- a figure f of a cell and g of a message that stays as it was in all
 
