@@ -4,7 +4,6 @@ ghost use Prim.Native.Nat.{ℕ, _+_, _≤_, _<_};
 ghost use mathlib.Core.Bool.{true};
 ghost use lib.ListN.{length};
 ghost use Rattle.spec_base.specs.Layout.{slice};
-ghost use Rattle.spec_arbiter.specs.Boards.{remove};
 ghost use Rattle.spec_arbiter.specs.Claims.{raised, lowered};
 ghost use Rattle.spec_rack.specs.RecordLayout.{claims, claimsAtOffset, putClaims, claimsSize};
 use super::sets;
@@ -21,15 +20,6 @@ pub fn raise_at(rec: &mut [u8], at: usize, board: u8)
     let w = u16_at(rec, place);
     let more = sets::insert(w, board);
     put_u16(rec, place, more);
-}
-
-// The waiting set that remains where a board leaves it: every other board that waits, whatever its number.
-fn remaining(waiting: u16, board: u8) -> u16
-    requires { ⌜ board < 16 ⌝ }
-    ensures { λ r. ⌜ r ≡ remove waiting board ⌝ }
-{
-    let bit = 1u16 << board;
-    (waiting | bit) - bit
 }
 
 // The board leaves the waiting set and every barring set; its own barring set becomes the waiting set that remains.
@@ -50,7 +40,6 @@ pub fn lower_at(rec: &mut [u8], at: usize, boards: u8, board: u8)
     let w = u16_at(rec, waiting);
     let others = sets::remove(w, board);
     put_u16(rec, waiting, others);
-    let rest = remaining(w, board);
     let own = at + 2 * (board as usize);
-    put_u16(rec, own, rest);
+    put_u16(rec, own, others);
 }

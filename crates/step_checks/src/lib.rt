@@ -83,8 +83,8 @@ pub fn waiting_set(rec: &[u8], block: u8) -> u16
     arbiter::claims::waiting_at(rec, claims_offset(block))
 }
 
-// Whether the boards that wait for a block stop a component's send of it: any of them does, whatever the component; the active board's own send is stopped too.
-pub fn claimed(boards: u16, component: u8) -> bool
+// Whether the boards that wait for a block stop sends of it: any of them does, whoever sends; the active board's own send is stopped too.
+pub fn claimed(boards: u16) -> bool
     ensures { λ r. ⌜ r ≡ not (eqb boards empty) ⌝ }
 {
     boards != 0

@@ -70,7 +70,7 @@ fn send_check(
     let state = record::cells::token_state(rec, block, component);
     let below = token_lines(rec, state, target, plain, owner, data);
     let claimed = step_checks::line(
-        step_checks::claimed(step_checks::waiting_set(rec, block), component),
+        step_checks::claimed(step_checks::waiting_set(rec, block)),
         Refusal::Claimed,
         below,
     );
@@ -131,12 +131,8 @@ pub fn send_tokens(
     let state = record::cells::token_state(rec, block, component);
     let token = state.owner;
     append_message(rec, component, block, target, plain, owner, data, token);
-    step_tokens::keep(
-        rec,
-        component,
-        block,
-        step_tokens::without_tokens(state, plain, owner),
-    );
+    let kept = step_tokens::without_tokens(state, plain, owner);
+    record::cells::set_token_state(rec, block, component, kept);
 }
 
 // A send: refused, with nothing changed, or made.

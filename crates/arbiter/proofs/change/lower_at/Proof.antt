@@ -61,9 +61,6 @@ remove-requires-2 c κs = search needs
 put-u16-requires-2 : tie.Need-put-u16-requires-2 Inv-loop μ-loop
 put-u16-requires-2 c κs = search needs
 
-remaining-requires : tie.Need-remaining-requires Inv-loop μ-loop
-remaining-requires c κs = search needs
-
 mul-own : tie.Need-mul-own Inv-loop μ-loop
 mul-own c = search needs
 
@@ -79,8 +76,7 @@ same-length c = search needs
 returns : tie.Need-returns Inv-loop μ-loop
 returns c =
     let own = c .before .before in
-    let rest = own .before .before in
-    let stored = rest .before .before .before in
+    let stored = own .before .before .before .before in
     let removed = stored .before .before in
     let read = removed .before in
     let l = read .before .before .before in
@@ -89,7 +85,7 @@ returns c =
     let all : l .loop .i ≡ s .args .boards = omega arith in
     lower-is (s .args .boards) (s .args .at) (s .pre .3) (s .args .rec .now) (λ k. known .slice-known .given k .fits) (s .pre .0) (s .pre .4) (s .args .board) _ _ _ _ _ _ (s .pre .1) (s .pre .2)
     (subst (λ (k : ℕ). Lowering (s .args .boards) (s .args .at) (s .args .rec .now) (s .args .board) k (l .loop .rec)) all (l .loop .inv .1))
-    (read .u16-at2 .ensures) (removed .remove2 .ensures) (search needs) (rest .remaining .ensures) (stored .put-u162 .ensures) (own .put-u163 .ensures)
+    (read .u16-at2 .ensures) (removed .remove2 .ensures) (search needs) (removed .remove2 .ensures) (stored .put-u162 .ensures) (own .put-u163 .ensures)
 
 pub lower-at-spec : {M : Type 1} → statement M
 lower-at-spec =
@@ -111,7 +107,6 @@ lower-at-spec =
     u16-at-requires-2
     remove-requires-2
     put-u16-requires-2
-    remaining-requires
     mul-own
     add-own
     put-u16-requires-3

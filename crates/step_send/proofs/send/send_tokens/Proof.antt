@@ -13,8 +13,8 @@ append-message-requires c κs = (c .before .before .before .before .pre, c .befo
 without-tokens-requires : tie.Need-without-tokens-requires
 without-tokens-requires c κs = search needs
 
-keep-requires : tie.Need-keep-requires
-keep-requires c κs =
+set-token-state-requires : tie.Need-set-token-state-requires
+set-token-state-requires c κs =
     let appended = c .before .before .before .before in
     let told = appended .before .before in
     let s = told .before .before .before in
@@ -31,9 +31,9 @@ returns c =
     let s = told .before .before .before in
     sent-is (s .args .rec .now) (λ k. told .before .before .slice-known .given k .fits) (s .args .component) (s .args .block) (s .args .plain) (s .pre)
     (s .args .target) (s .fits .target .fits) (s .args .owner) (s .args .«data») (appended .append-message .last .0) (appended .append-message .ensures)
-    (told .token-state .result) (c .before .before .before .without-tokens .result) (told .token-state .ensures) (c .before .before .before .without-tokens .ensures) (c .before .before .keep .last .0) (c .before .before .keep .ensures)
+    (told .token-state .result) (c .before .before .before .before .without-tokens .result) (told .token-state .ensures) (c .before .before .before .before .without-tokens .ensures) (c .before .before .set-token-state .last .0) (c .before .before .set-token-state .ensures)
 
 pub send-tokens-spec : {M : Type 1} → statement M
 send-tokens-spec =
     tie.close
-    (tie.spec token-state-requires append-message-requires without-tokens-requires keep-requires same-length returns)
+    (tie.spec token-state-requires append-message-requires without-tokens-requires set-token-state-requires same-length returns)
