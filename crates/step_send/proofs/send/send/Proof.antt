@@ -13,6 +13,13 @@ send-check-requires c κs = search needs
 is-pass-requires : tie.Need-is-pass-requires
 is-pass-requires c κs = search needs
 
+-- The reply stands before what taking the tokens asks for, so that a wrong verdict is refused there first.
+returns : tie.Need-returns
+unfolding answer after
+returns c =
+    let way = c .before .before .before .before in
+    made _ _ refl _ (passes _ _ _ (way .before .before .send-check .ensures) (way .before .is-pass .ensures) (way .if1 .taken)) (c .before .before .send-tokens .ensures)
+
 send-tokens-requires : tie.Need-send-tokens-requires
 send-tokens-requires c κs =
     let k = c .before .before .before in
@@ -22,12 +29,6 @@ send-tokens-requires c κs =
 
 same-length : tie.Need-same-length
 same-length c = search needs
-
-returns : tie.Need-returns
-unfolding answer after
-returns c =
-    let way = c .before .before .before .before in
-    made _ _ refl _ (passes _ _ _ (way .before .before .send-check .ensures) (way .before .is-pass .ensures) (way .if1 .taken)) (c .before .before .send-tokens .ensures)
 
 reply-of-requires : tie.Need-reply-of-requires
 reply-of-requires c κs = search needs
