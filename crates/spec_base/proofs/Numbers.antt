@@ -7,7 +7,7 @@ use native.Mathlib.Nat.{pow-suc, pow-le-pow-right, add-zero, zero-add}
 use mathlib.Core.List.{List, [], _∷_, _++_}
 use lib.ListN.{length, take, drop, getD, set, length-append}
 use lib.Seq.{drop-cons, set-split, drop-at, length-take-le, append-snoc}
-use Rattle.spec_base.specs.Number.{Bytes, number, numberFrom, digits}
+use Rattle.spec_base.specs.Number.{Bytes, number, numberFrom, digits, ByteNumbers}
 use Rattle.spec_base.proofs.Parts.{bytes-append}
 
 pub length-digits : (n v : ℕ) → length (digits n v) ≡ n
@@ -62,6 +62,16 @@ number-same (x ∷ xs) (y ∷ ys) a b l h k e =
 pub digits-number : (bs : List ℕ) → Bytes bs → digits (length bs) (number bs) ≡ bs
 digits-number bs k =
     number-same (digits (length bs) (number bs)) bs 0 0 (length-digits (length bs) (number bs)) (bytes-digits (length bs) (number bs)) k (number-digits (length bs) (number bs) (number-below bs k)) .1
+
+pub byte-numbers : ByteNumbers
+byte-numbers =
+    record {
+      size = length-digits;
+      bytes = bytes-digits;
+      written-and-read = number-digits;
+      read-and-written = digits-number;
+      below = number-below;
+    }
 
 -- ---- as loops go
 

@@ -1,7 +1,8 @@
 -- Document 01, "Step records": numbers in bytes, the high byte first.
-use Prim.Native.Nat.{ℕ, zero, suc, _+_, _*_, _/_, _%_, _<_}
+use Prim.Native.Nat.{ℕ, zero, suc, _+_, _*_, _/_, _%_, _^_, _<_}
+use mathlib.Core.Path.{_≡_}
 use mathlib.Core.List.{List, [], _∷_, _++_}
-use lib.ListN.{getD}
+use lib.ListN.{length, getD}
 
 -- every element is a byte, as the elements of a `u8` slice are
 abbrev pub Bytes : List ℕ → Type 0
@@ -20,3 +21,13 @@ number bs = numberFrom 0 bs
 abbrev pub digits : ℕ → ℕ → List ℕ
 digits zero v = []
 digits (suc n) v = digits n (v / 256) ++ (v % 256 ∷ [])
+
+-- Numbers below 256 ^ n and n bytes go one to one. It is proved, so it adds nothing to believe.
+pub record ByteNumbers : Type 0 where
+  -- v in n bytes is n bytes
+  pub size : (n v : ℕ) → length (digits n v) ≡ n
+  pub bytes : (n v : ℕ) → Bytes (digits n v)
+  -- written and read, read and written
+  pub written-and-read : (n v : ℕ) → v < 256 ^ n → number (digits n v) ≡ v
+  pub read-and-written : (bs : List ℕ) → Bytes bs → digits (length bs) (number bs) ≡ bs
+  pub below : (bs : List ℕ) → Bytes bs → number bs < 256 ^ length bs

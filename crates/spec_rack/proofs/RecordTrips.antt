@@ -1,18 +1,20 @@
 -- The record's round trips, by the laws of its layout: a sound rack whose words fit is one that a record can hold.
-use Prim.Native.Nat.{ℕ, _^_, _<_}
-use mathlib.Core.Path.{_≡_, sym, subst}
+use Prim.Native.Nat.{ℕ, _^_, _≤_, _<_}
+use mathlib.Core.Path.{_≡_, sym, ap, _∙_, subst}
 use mathlib.Core.Bool.{Bool, true}
 use mathlib.Core.List.{List}
+use lib.ListN.{length}
 use lib.Dec.{ltb}
 use borrow.Author.Tests.{ltb-true, lt-ltb}
 use Rattle.spec_base.specs.Folds.{all}
+use Rattle.spec_base.specs.Number.{Bytes}
 use Rattle.spec_base.proofs.Tests.{and-l, and-r, and-of}
 use Rattle.spec_base.proofs.Folds.{all-at, all-of, all-every, every-all}
 use Rattle.spec_rack.specs.Rack.{Cell, Block, Rack, noBlock, blockAt}
 use Rattle.spec_rack.specs.declared.Message.{Message}
-use Rattle.spec_rack.specs.Soundness.{sound}
-use Rattle.spec_rack.specs.RecordLayout.{get, put}
-use Rattle.spec_rack.specs.RecordTrips.{fitting, wordsFit, RecordTrips}
+use Rattle.spec_rack.specs.Soundness.{sound, soundBytes}
+use Rattle.spec_rack.specs.RecordLayout.{recordLength, get, put}
+use Rattle.spec_rack.specs.RecordTrips.{fitting, wordsFit, Written, RecordTrips}
 use Rattle.spec_rack.proofs.SoundnessFacts.{Sound, sound-facts, sound-test}
 use Rattle.spec_rack.proofs.BlockInvariant.{Fit, Fits}
 use Rattle.spec_rack.proofs.GetPut.{get-put, put-get, put-keeps, put-behind, put-formed}
@@ -51,19 +53,25 @@ fits-test r f =
     (λ b l. every-all (λ (x : Cell). Fit (x .words)) (λ x. fitting (x .words)) (blockAt r b .cells) (λ x. fit-test (x .words)) (f .cells b l))))
     (every-all (λ (m : Message). Fit (m .words)) (λ m. fitting (m .words)) (r .mesh) (λ m. fit-test (m .words)) (f .mesh))
 
+written-trip : (r : Rack) (s : List ℕ) → sound r ≡ true → wordsFit r ≡ true → Bytes s → recordLength (length (r .blocks)) ≤ length s → Written r s
+written-trip r s ok fit bytes room =
+    let sr = sound-facts r ok in
+    let fr = fits-of r fit in
+    let h = holdable r sr fr in
+    let back = get-put r h s room in
+    record {
+      back = back;
+      sound = sound-of (put r s) (record { wellFormed = put-formed r h s room bytes; sound = subst Sound (sym back) sr; fits = subst Fits (sym back) fr });
+      rest = record { size = put-keeps r h s room; behind = put-behind r h s room };
+    }
+
 pub record-trips : RecordTrips
 record-trips =
     record {
-      written = λ r s ok fit bytes room.
-          let sr = sound-facts r ok in
-          let fr = fits-of r fit in
-          let h = holdable r sr fr in
-          let back = get-put r h s room in
-          record {
-            back = back;
-            sound = sound-of (put r s) (record { wellFormed = put-formed r h s room bytes; sound = subst Sound (sym back) sr; fits = subst Fits (sym back) fr });
-            rest = record { size = put-keeps r h s room; behind = put-behind r h s room };
-          };
-      unchanged = λ s bytes ok. put-get s (live-of s bytes ok .wellFormed);
+      written = written-trip;
       read = λ s bytes ok. let live = live-of s bytes ok in (sound-test (get s) (live .sound), fits-test (get s) (live .fits));
+      unchanged = λ s bytes ok. put-get s (live-of s bytes ok .wellFormed);
+      only = λ r s ok fit bytes room same.
+          let w = written-trip r s ok fit bytes room in
+          (subst (λ (t : List ℕ). soundBytes t ≡ true) same (w .sound), ap get (sym same) ∙ w .back);
     }

@@ -61,18 +61,18 @@ Keeps P (accepted a r) = P a r
 -- ---- down the refusal table
 
 -- X, where a check passes
-abbrev IfPassed : Check → Type 0 → Type 0
+abbrev pub IfPassed : Check → Type 0 → Type 0
 IfPassed Pass X = X
 IfPassed (Refuse n) X = Unit {0}
 
 -- past a line its test has failed
-guard : (X : Type 0) (t : Bool) (n : Refusal) (k : Check) → (t ≡ false → IfPassed k X) → IfPassed (when t refuse n else k) X
+pub guard : (X : Type 0) (t : Bool) (n : Refusal) (k : Check) → (t ≡ false → IfPassed k X) → IfPassed (when t refuse n else k) X
 unfolding when_refuse_else_
 guard X true n k f = tt
 guard X false n k f = f refl
 
 -- past other lines their check has passed
-given : (X : Type 0) (k : Check) → (k ≡ Pass → X) → IfPassed k X
+pub given : (X : Type 0) (k : Check) → (k ≡ Pass → X) → IfPassed k X
 given X Pass f = f refl
 given X (Refuse n) f = tt
 
@@ -90,7 +90,7 @@ module _ (r : Rack) (s : Sound r) where
   room : meshFull r ≡ false → length (r .mesh) < meshLimit
   room h = omega (arith, leb-false)
 
-  in-mesh : (i : ℕ) → pastMesh r i ≡ false → i < length (r .mesh)
+  pub in-mesh : (i : ℕ) → pastMesh r i ≡ false → i < length (r .mesh)
   in-mesh i h = omega (arith, leb-false)
 
   module _ (c b : ℕ) (on : offRack r c b ≡ false) where

@@ -72,7 +72,7 @@ zeros = replicate 8 0
 abbrev pub noCell : Cell
 noCell = record { plain = 0; owner = Away; valid = false; words = zeros }
 
--- what stands past the ends of the lists; no step that passes its checks reads there
+-- what stands past the ends of the lists; on a sound rack no step that passes its checks reads there (InRange.antt)
 abbrev pub noBlock : Block
 noBlock = record { cells = []; claims = [] }
 

@@ -27,9 +27,11 @@ pub record Written (r : Rack) (s : List ℕ) : Type 0 where
   pub rest : Behind (length (r .blocks)) s (put r s)
 
 pub record RecordTrips : Type 0 where
-  -- so it is of every sound rack whose words fit, in every buffer that is long enough,
+  -- so it is of every sound rack whose words fit, in every buffer that is long enough
   pub written : (r : Rack) (s : List ℕ) → sound r ≡ true → wordsFit r ≡ true → Bytes s → recordLength (length (r .blocks)) ≤ length s → Written r s
-  -- and to write the rack that a sound record holds changes no byte
-  pub unchanged : (s : List ℕ) → Bytes s → soundBytes s ≡ true → put (get s) s ≡ s
-  -- that rack is sound, and its words fit
+  -- A buffer holds a sound record exactly where a sound rack whose words fit, written over it, changes no byte. The rack that is read is such a rack:
   pub read : (s : List ℕ) → Bytes s → soundBytes s ≡ true → (sound (get s) ≡ true) × (wordsFit (get s) ≡ true)
+  pub unchanged : (s : List ℕ) → Bytes s → soundBytes s ≡ true → put (get s) s ≡ s
+  -- and where there is one, the record is sound and is read as that rack
+  pub only : (r : Rack) (s : List ℕ) → sound r ≡ true → wordsFit r ≡ true → Bytes s → recordLength (length (r .blocks)) ≤ length s → put r s ≡ s
+      → (soundBytes s ≡ true) × (get s ≡ r)

@@ -14,7 +14,7 @@ use Rattle.spec_base.proofs.Folds.{all-every, every-all}
 use Rattle.spec_wire.specs.declared.Field.{Field}
 use Rattle.spec_wire.specs.declared.Step.{Step}
 use Rattle.spec_wire.specs.declared.Step.the-variants.{Load, Store, Send, Deliver, Raise, Lower, Forward}
-use Rattle.spec_wire.specs.Kinds.{allFields, noField, fieldTagged, fieldOf, Kind, kinds, noKind, kindCoded, kindOf, fieldArray, kindIn, valueOf, inBounds}
+use Rattle.spec_wire.specs.Kinds.{loadKind, forwardKind, allFields, noField, fieldTagged, fieldOf, Kind, kinds, noKind, kindCoded, kindOf, fieldArray, kindIn, valueOf, inBounds}
 use Rattle.spec_wire.specs.StepRecord.{fieldSizes}
 
 -- ---- fields
@@ -113,15 +113,18 @@ get-first ns f h = getD-take 12 ns (f .tag) 0 h
 pub fields-size : (k : ℕ) → fieldSizes (kindOf k .fields) ≤ 24
 fields-size = kind-elim (λ k x. fieldSizes (x .fields) ≤ 24) (λ k. omega arith) (omega arith)
 
-pub kind-small : (s : Step) → kindIn (fieldArray s) < 256
+pub kind-known : (s : Step) → (loadKind ≤ kindIn (fieldArray s)) × (kindIn (fieldArray s) ≤ forwardKind)
 unfolding fieldArray
-kind-small (Load c b w) = omega arith
-kind-small (Store c b w v) = omega arith
-kind-small (Send c b t p o d) = omega arith
-kind-small (Deliver i) = omega arith
-kind-small (Raise c b) = omega arith
-kind-small (Lower c b) = omega arith
-kind-small (Forward c b) = omega arith
+kind-known (Load c b w) = omega arith
+kind-known (Store c b w v) = omega arith
+kind-known (Send c b t p o d) = omega arith
+kind-known (Deliver i) = omega arith
+kind-known (Raise c b) = omega arith
+kind-known (Lower c b) = omega arith
+kind-known (Forward c b) = omega arith
+
+pub kind-small : (s : Step) → kindIn (fieldArray s) < 256
+kind-small s = omega (arith, kind-known s .1)
 
 pub places-length : (s : Step) → length (fieldArray s) ≡ 12
 unfolding fieldArray

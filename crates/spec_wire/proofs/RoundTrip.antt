@@ -1,5 +1,5 @@
 -- The theorems on step records: reading what was written gives the step, and writing what was read gives the bytes.
-use mathlib.Core.Path.{_≡_, refl, sym, ap, _∙_}
+use mathlib.Core.Path.{_≡_, refl, sym, ap, _∙_, subst}
 use Prim.Native.Nat.{ℕ, _+_, _*_, _-_, _/_, _%_, _≤_, _<_}
 use native.Mathlib.Omega.{arith}
 use mathlib.Core.Bool.{Bool, true, false, cond}
@@ -14,11 +14,11 @@ use Rattle.spec_wire.specs.declared.Refusal.{Refusal}
 use Rattle.spec_wire.specs.declared.Refusal.the-variants.{Torn}
 use Rattle.spec_wire.specs.declared.Step.{Step}
 use Rattle.spec_wire.specs.declared.Reading.the-variants.{Step as Read, Refused}
-use Rattle.spec_wire.specs.Kinds.{kindOf, fieldArray, kindIn, stepInBounds}
+use Rattle.spec_wire.specs.Kinds.{loadKind, forwardKind, kindOf, fieldArray, kindIn, stepInBounds}
 use Rattle.spec_wire.specs.StepRecord.{recordBytes, stepBytes}
-use Rattle.spec_wire.specs.Reader.{bodyParses, parsedArray, readBody, framed, readRecord, ReadFits}
+use Rattle.spec_wire.specs.Reader.{bodyParses, parsedArray, readBody, framed, readRecord, ReadFits, OnlyKinds}
 use Rattle.spec_wire.specs.RoundTrip.{RoundTrips}
-use Rattle.spec_wire.proofs.KindTable.{fields-sound, of-fit}
+use Rattle.spec_wire.proofs.KindTable.{fields-sound, of-fit, kind-known}
 use Rattle.spec_wire.proofs.RecordSizes.{body, body-length, record-length}
 use Rattle.spec_wire.proofs.FieldTrips.{body-read, body-written}
 use Rattle.spec_wire.proofs.BodyTrips.{found, step-found, step-body, gathered-fits}
@@ -123,3 +123,10 @@ read-fits bs s e =
     let a = accepted bs s e in
     let k : ℕ = getD bs 0 0 in
     rw (read-places bs s a, found (drop 3 bs) k (a .filled) .kind) (gathered-fits k (drop 3 bs) (a .filled))
+
+-- The kind byte is that of the step that was read.
+pub only-kinds : OnlyKinds
+only-kinds bs s e =
+    let a = accepted bs s e in
+    let same : kindIn (fieldArray s) ≡ getD bs 0 0 = ap kindIn (read-places bs s a) ∙ found (drop 3 bs) (getD bs 0 0) (a .filled) .kind in
+    subst (λ (k : ℕ). (loadKind ≤ k) × (k ≤ forwardKind)) same (kind-known s)
