@@ -83,7 +83,7 @@ static inline uint32_t hyl_block_of(uint64_t result)
 #define HYL_BARRED 16u      /* raise, barring set not empty */
 #define HYL_NOT_WAITING 17u /* lower by a board not waiting */
 #define HYL_UNCLAIMED 18u   /* forward, no active board */
-#define HYL_SIZE 19u        /* opening with N, B or T out of range */
+#define HYL_SIZE 19u        /* opening with N, B or T out of range; hyl_record_len with such a B */
 
 /* The longest record, in bytes: that of 32 blocks. */
 #define HYL_RECORD_LONGEST 22816
@@ -92,8 +92,8 @@ static inline uint32_t hyl_block_of(uint64_t result)
 uint64_t hyl_record_len(uint32_t blocks);
 
 /* Opens a record at the front of a buffer: home holds all tokens of each block, valid, the owners are clean, and all words are 0. What the buffer
- * held before does not matter, and its bytes past the record stay as they are. So do the bytes that the layout leaves as room: two records with the
- * same figures may differ there.
+ * held before does not matter, and its bytes past the record stay as they are. So do room, the words of components above N and the places of the
+ * messages: two records with the same figures may differ there.
  *
  * A record that was opened before owners had marks is not to be used any longer: open a new one. The marks of components stand where it has room, in
  * bytes that nobody wrote; those of messages are 0 there. It may be refused with HYL_UNSOUND, or be sound with marks that are wrong.
@@ -115,7 +115,7 @@ uint64_t hyl_open(uint8_t *rec, size_t rec_len, uint32_t boards, uint32_t blocks
 uint64_t hyl_step(uint8_t *rec, size_t rec_len, const uint8_t *step, size_t step_len);
 
 /* Gives the step records that stand one behind the other in a list, as so many calls of hyl_step would, but decides once whether the record is
- * sound. The list is cut by the records' lengths; a record that the list ends before is one torn step. It stops at the end of the list, or when
+ * sound. The list is cut by the step records' lengths; one that the list ends before is one torn step. It stops at the end of the list, or when
  * `replies` is full.
  *   rec, rec_len          the buffer that holds the record
  *   list, list_len        the step records

@@ -177,8 +177,9 @@ static inline uint32_t hyl_view_owner(const uint8_t *rec, uint32_t component, ui
     return rec[hyl_view_block_at(block) + HYL_VIEW_OWNER_AT + component];
 }
 
-/* 1 where it holds the owner and the owner is dirty, else 0: a clean owner, or none. Where hyl_view_owner is 1 and this is 0, a board may send
- * the owner home without data. A board that holds all T shows 'M' where this is 1 and 'E' where it is 0 (hyl_letter of hyaloneth.h). */
+/* 1 where it holds the owner and the owner is dirty, else 0: a clean owner, or none. Where hyl_view_owner is 1 and this is 0, HYL_BARE_OWNER does
+ * not stop a board's send of the owner home without data. A board that holds all T shows 'M' where this is 1 and 'E' where it is 0 (hyl_letter of
+ * hyaloneth.h). */
 static inline uint32_t hyl_view_dirty(const uint8_t *rec, uint32_t component, uint32_t block)
 {
     return rec[hyl_view_block_at(block) + HYL_VIEW_DIRTY_AT + component];

@@ -5,12 +5,12 @@
 //! record, bytes at the front of a buffer that the host lends: [`Record`]. A policy hands in
 //! [`Step`]s and gets a [`Reply`] or a [`Refusal`] for each: the word of a load, whom a deliver
 //! served. A refused call changes nothing. The engine looks at everything anew at each call, so no
-//! input can bring it out of step: a damaged record, a torn step and a number such as 258 are
+//! input can bring it out of step: an unsound record, a torn step and a number such as 258 are
 //! refused.
 //!
 //! [`View`] reads the figures of a record, and [`script`] is the readable form of step records that
 //! the program `hyaloneth-trace` speaks. The owner token of a block is clean or dirty, which the view
-//! tells too: a board that only read may give the block back without the words. [`Owner`] shows it.
+//! tells too: a clean owner may go home without the words. [`Owner`] shows it.
 //! [`Letter`] is what a display shows of a board and a block.
 //!
 //! ```

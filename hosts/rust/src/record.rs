@@ -80,8 +80,9 @@ impl<'a> Record<'a> {
         Ok(Record { buffer })
     }
 
-    /// Takes up the record that a buffer holds. Nothing is looked at here: every call decides
-    /// whether the record is sound, and is refused with [`Refusal::Unsound`] where it is not.
+    /// Takes up the record that a buffer holds. Nothing is looked at here: every step, letter and
+    /// view decides whether the record is sound. Where it is not, they are refused with
+    /// [`Refusal::Unsound`], a step that is torn with [`Refusal::Torn`].
     pub fn over(buffer: &'a mut [u8]) -> Record<'a> {
         Record { buffer }
     }
@@ -100,8 +101,8 @@ impl<'a> Record<'a> {
     /// Makes the step whose record the bytes are.
     ///
     /// Refused with [`Refusal::Torn`], then [`Refusal::Unsound`], then by the step's own lines of
-    /// the refusal table. Each call decides anew whether the record is sound: [`Record::run`] does
-    /// so once for a list.
+    /// the refusal table. Each call decides anew whether the record is sound: [`Record::run_some`]
+    /// does so once for a list, [`Record::run`] once for 64 steps of it.
     ///
     /// ```
     /// use hyaloneth::{Record, Refusal};
@@ -154,7 +155,8 @@ impl<'a> Record<'a> {
 
     /// Makes the steps of a list from `at` on until the list ends or `answers` is full, and gives
     /// how many. `at` becomes the place where the next call goes on, the list's length at the end.
-    /// Answers behind those made stay as they are.
+    /// Where it is past the end, no step is made and it stays. Answers behind those made stay as
+    /// they are.
     ///
     /// ```
     /// use hyaloneth::{Answer, Record, Refusal, Reply, Step};

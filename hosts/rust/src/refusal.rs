@@ -1,7 +1,7 @@
 use std::error::Error;
 use std::fmt;
 
-/// Why a call was refused: document 01's refusal table.
+/// Why a call was refused: document 01's refusal table, as document 02 has changed it.
 ///
 /// ```
 /// use hyaloneth::{Record, Refusal};
@@ -22,7 +22,7 @@ pub enum Refusal {
     Unsound = 2,
     /// 3: component above N, block not below B, word above 7, or target above N.
     OffRack = 3,
-    /// 4: store, raise, lower or letter at component 0. A load there is answered as at a board.
+    /// 4: store, raise, lower or letter at component 0. A load there is judged as at a board.
     Home = 4,
     /// 5: load or forward with nothing held.
     NoToken = 5,
@@ -52,7 +52,7 @@ pub enum Refusal {
     NotWaiting = 17,
     /// 18: forward of a block that has no active board.
     Unclaimed = 18,
-    /// 19: opening with N, B or T out of range.
+    /// 19: opening with N, B or T out of range, or a record's length for such a B.
     Size = 19,
     /// 20: opening or writing into a buffer that ends too early.
     ShortBuffer = 20,

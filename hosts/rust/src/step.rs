@@ -4,8 +4,8 @@ use crate::Refusal;
 
 /// One step of a policy.
 ///
-/// Numbers are 32 bits wide. A record's fields are narrower: a number that its field does not take
-/// is refused with [`Refusal::Torn`] and never cut.
+/// Numbers are 32 bits wide. The fields of a step record are narrower, but for a store's value: a
+/// number that its field does not take is refused with [`Refusal::Torn`] and never cut.
 ///
 /// ```
 /// use hyaloneth::{Refusal, Step};

@@ -31,7 +31,7 @@ pub struct View<'a> {
 /// Fresh owners are clean. A store makes the owner dirty, also a store of the value that was there
 /// already. A delivery to home makes it clean. Otherwise the mark travels as it is. In a record that
 /// was opened and then changed by steps alone, home has the words of every block whose owner is
-/// clean. So a board may send a clean owner home without data:
+/// clean. So a clean owner needs no data on its way home:
 ///
 /// ```
 /// use hyaloneth::{Owner, Record, Refusal, Reply, Step};
@@ -68,11 +68,12 @@ pub struct View<'a> {
 pub enum Owner {
     /// The owner is elsewhere.
     Away,
-    /// The owner is here, and no store was made since it was last at home. A board that holds all
-    /// tokens shows [`Letter::Exclusive`].
+    /// The owner is here and clean. In a record that was opened and then changed by steps alone, no
+    /// store was made since it was last at home. A board that holds all tokens shows
+    /// [`Letter::Exclusive`].
     Clean,
-    /// The owner is here, and a store was made since it was last at home. A board that holds all
-    /// tokens shows [`Letter::Modified`].
+    /// The owner is here and dirty. In such a record a store was made since it was last at home. A
+    /// board that holds all tokens shows [`Letter::Modified`].
     Dirty,
 }
 
@@ -89,7 +90,7 @@ impl Owner {
         self != Owner::Away
     }
 
-    /// Whether the owner is here and clean: a board may send it home without data.
+    /// Whether the owner is here and clean: on its way home it needs no data.
     ///
     /// ```
     /// use hyaloneth::Owner;
