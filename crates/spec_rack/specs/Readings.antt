@@ -212,11 +212,17 @@ pub record Effects : Type 0 where
   -- store: the word of that component and block only
   pub store-there : cellAt stored 0 1 .words ≡ first 7
   pub store-only : cellAt stored 0 0 .words ≡ zeros
+  -- and of no other board
+  pub store-no-board : cellAt stored 0 2 .words ≡ zeros
   pub store-last : rackAnswers (fresh 2 2 3) (Send 0 1 1 2 true true ∷ Deliver 0 ∷ Store 1 1 7 9 ∷ Load 1 1 7 ∷ Load 1 1 6 ∷ []) ≡ 9 ∷ 0 ∷ []
   -- send: what is left when nothing is held; the words stay, valid goes
   pub send-all : cellAt (run stored (Send 1 0 2 2 true true ∷ [])) 0 1 ≡ cell 0 Away false 7
   -- what is left when something is held
   pub send-some : cellAt (run stored (Send 1 0 2 0 true true ∷ [])) 0 1 ≡ cell 2 Away true 7
+  -- raise and lower leave the words, also those that nobody can read
+  pub claims-leave-words : map (λ ss. cellAt (run stored (Send 1 0 2 2 true true ∷ ss)) 0 1) ((Raise 1 0 ∷ []) ∷ (Raise 1 0 ∷ Lower 1 0 ∷ []) ∷ []) ≡ replicate 2 (cell 0 Away false 7)
+  -- a board that holds all T may raise
+  pub raise-with-all : met stored (Raise 1 0 ∷ []) ≡ 0 ∷ []
   -- a message with data has the words; one without has eight times 0
   pub send-data :
       run stored (Send 1 0 2 1 false true ∷ []) .mesh
@@ -239,6 +245,9 @@ pub record Effects : Type 0 where
   pub forward-bare :
       run (fresh 2 1 3) (sendPlain 0 2 1 ∷ Deliver 0 ∷ Raise 2 0 ∷ Raise 1 0 ∷ Forward 2 0 ∷ []) .mesh
       ≡ mail 2 1 0 1 Away false 0 ∷ []
+  -- by the claims on its own block: 18 where only another block is claimed, and to the active board of its own
+  pub forward-own-block : met (run two (Raise 2 0 ∷ [])) (Forward 0 1 ∷ []) ≡ 18 ∷ []
+  pub forward-own-target : map (λ m. m .header .target) (run two (Raise 2 0 ∷ Raise 1 1 ∷ Forward 0 1 ∷ []) .mesh) ≡ 1 ∷ []
   -- 64 messages are the most: with 63 in flight a send and a forward are accepted, with 64 neither
   pub mesh-63 : met (run claimedFull (Deliver 0 ∷ [])) (Forward 0 1 ∷ []) ≡ 0 ∷ []
   pub mesh-63-send : met (run full (Deliver 63 ∷ [])) (Send 0 1 1 1 false false ∷ []) ≡ 0 ∷ []
@@ -281,6 +290,8 @@ pub record RaiseAndLower : Type 0 where
   pub lower-last : sets (waiting3 ++ Lower 2 0 ∷ Lower 1 0 ∷ Lower 3 0 ∷ []) ≡ 0 ∷ 0 ∷ 0 ∷ 0 ∷ []
   -- a board that raises later bars nobody who lowered before
   pub later : sets (Raise 1 0 ∷ Lower 1 0 ∷ Raise 2 0 ∷ []) ≡ 4 ∷ 0 ∷ 0 ∷ 0 ∷ []
+  -- nor one who is barred by another
+  pub later-beside : sets (Raise 1 0 ∷ Raise 2 0 ∷ Lower 1 0 ∷ Raise 3 0 ∷ []) ≡ 12 ∷ 4 ∷ 0 ∷ 0 ∷ []
   -- barred for block 0 only
   pub other-block : met (run (fresh 3 2 3) (waiting3 ++ Lower 2 0 ∷ [])) (Raise 2 0 ∷ Raise 2 1 ∷ Lower 2 0 ∷ Lower 1 1 ∷ []) ≡ 16 ∷ 0 ∷ 17 ∷ 17 ∷ []
 
@@ -365,6 +376,7 @@ pub record Soundness : Type 0 where
   pub valid-without-token : soundCells (cell 2 Clean true 0 ∷ cell 0 Away true 0 ∷ noCell ∷ []) ≡ false
   -- the owner's holder is valid
   pub owner-not-valid : soundCells (cell 2 Clean false 0 ∷ noCell ∷ noCell ∷ []) ≡ false
+  pub dirty-not-valid : soundCells (noCell ∷ cell 2 Dirty false 0 ∷ noCell ∷ []) ≡ false
   -- words that were left behind are no fault
   pub left-behind : soundCells (cell 2 Clean true 0 ∷ cell 0 Away false 6 ∷ noCell ∷ []) ≡ true
   -- every set has boards 1 to N only

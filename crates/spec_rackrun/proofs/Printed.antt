@@ -1,5 +1,6 @@
--- The texts hold by computation on the definitions.
+-- The texts hold by computation on the definitions, and what is used of an input by the laws of lists.
 use mathlib.Core.Path.{refl}
+use lib.Seq.{take-at, take-all}
 use Rattle.spec_wire.specs.Refusals.{when_refuse_else_}
 use Rattle.spec_wire.specs.Kinds.{kindOf, fieldArray}
 use Rattle.spec_wire.specs.StepRecord.{fieldBytes, recordBytes, stepBytes}
@@ -26,6 +27,8 @@ printed =
       longest = refl;
       served = refl;
       served-largest = refl;
+      used = λ front rest l. take-at front rest _ l;
+      used-all = λ input l. take-all _ input l;
       under-three = refl;
       bad-sizes = refl;
       example = refl;

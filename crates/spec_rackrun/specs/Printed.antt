@@ -1,17 +1,17 @@
 -- Document 01, "Program rackrun", with document 02, Nos. 1, 2 and 7: lines and texts, in ASCII, each an equation that is computed. They hold the definitions
 -- to the paper where a theorem about both definition and code could not tell a wrong reading.
-use Prim.Native.Nat.{ℕ}
+use Prim.Native.Nat.{ℕ, _≤_}
 use mathlib.Core.Path.{_≡_}
 use mathlib.Core.Bool.{true, false}
 use mathlib.Core.List.{List, [], _∷_, _++_, map}
-use lib.ListN.{replicate}
+use lib.ListN.{length, replicate}
 use Rattle.spec_wire.specs.declared.Refusal.the-variants.{NoToken, ShortBuffer}
 use Rattle.spec_wire.specs.declared.Step.the-variants.{Send, Deliver}
 use Rattle.spec_wire.specs.StepRecord.{stepBytes}
 use Rattle.spec_wire.specs.Readings.{listing}
 use Rattle.spec_rack.specs.declared.Answer.the-variants.{Done, Word, Served}
 use Rattle.spec_rack.specs.declared.Reply.the-variants.{Accepted, Refused}
-use Rattle.spec_rackrun.specs.Rackrun.{line}
+use Rattle.spec_rackrun.specs.Rackrun.{usedInput, line}
 use Rattle.spec_rackrun.specs.RuledText.{ruledText}
 
 -- byte strings one after the other
@@ -38,6 +38,9 @@ pub record Printed : Type 0 where
   -- "3 d3.10", and the largest numbers of a byte: both decimal, with no zero in front
   pub served : line 3 (Accepted (Served 3 10)) ≡ 51 ∷ 32 ∷ 100 ∷ 51 ∷ 46 ∷ 49 ∷ 48 ∷ 10 ∷ []
   pub served-largest : line 21845 (Accepted (Served 255 255)) ≡ 50 ∷ 49 ∷ 56 ∷ 52 ∷ 53 ∷ 32 ∷ 100 ∷ 50 ∷ 53 ∷ 53 ∷ 46 ∷ 50 ∷ 53 ∷ 53 ∷ 10 ∷ []
+  -- "It uses the first 65,536 bytes": of any input as long or longer those, and of a shorter one all
+  pub used : (front rest : List ℕ) → length front ≡ 65536 → usedInput (front ++ rest) ≡ front
+  pub used-all : (input : List ℕ) → length input ≤ 65536 → usedInput input ≡ input
   -- under three bytes: "0 r1"; three and no good sizes: "0 r19", and nothing of the records behind
   pub under-three : map ruledText ([] ∷ (2 ∷ []) ∷ (2 ∷ 1 ∷ []) ∷ []) ≡ replicate 3 (48 ∷ 32 ∷ 114 ∷ 49 ∷ 10 ∷ [])
   pub bad-sizes : ruledText (2 ∷ 1 ∷ 1 ∷ 0x13 ∷ 0 ∷ 4 ∷ 9 ∷ 0 ∷ 1 ∷ 0 ∷ []) ≡ 48 ∷ 32 ∷ 114 ∷ 49 ∷ 57 ∷ 10 ∷ []
