@@ -28,8 +28,8 @@ abbrev pub cell : ℕ → Owner → Bool → List ℕ → Cell
 cell p o v ws = record { plain = p; owner = o; valid = v; words = ws }
 
 -- nothing held, and words left behind
-abbrev pub left : ℕ → Cell
-left w = cell 0 Away false (eight w)
+abbrev pub stale : ℕ → Cell
+stale w = cell 0 Away false (eight w)
 
 -- what home and boards 1 to 4 have of a block; its waiting set, and the barring sets of boards 1 to 4. Board i adds 2 ^ i to a set.
 abbrev pub block : Cell → Cell → Cell → Cell → Cell → Claims → Block
@@ -62,7 +62,7 @@ abbrev pub sets0 : Claims
 sets0 = 0 ∷ 0 ∷ 0 ∷ 0 ∷ 0 ∷ []
 
 abbrev pub block0 : Block
-block0 = block cell00 cell01 cell02 (left 0xA30) cell04 sets0
+block0 = block cell00 cell01 cell02 (stale 0xA30) cell04 sets0
 
 -- block 1 is all at board 2, clean; board 4 waits, and bars board 3
 abbrev pub cell12 : Cell
@@ -72,7 +72,7 @@ abbrev pub sets1 : Claims
 sets1 = 16 ∷ 0 ∷ 0 ∷ 16 ∷ 0 ∷ []
 
 abbrev pub block1 : Block
-block1 = block (left 0xB00) (left 0xB10) cell12 (left 0xB30) (left 0xB40) sets1
+block1 = block (stale 0xB00) (stale 0xB10) cell12 (stale 0xB30) (stale 0xB40) sets1
 
 -- block 2 is shared, with its owner on the way home; boards 1, 3 and 4 wait, and 1 and 4 of them bar board 2
 abbrev pub cell20 : Cell
@@ -88,7 +88,7 @@ abbrev pub sets2 : Claims
 sets2 = 26 ∷ 0 ∷ 18 ∷ 0 ∷ 0 ∷ []
 
 abbrev pub block2 : Block
-block2 = block cell20 cell21 (left 0xC20) cell23 (left 0xC40) sets2
+block2 = block cell20 cell21 (stale 0xC20) cell23 (stale 0xC40) sets2
 
 -- in flight: of block 2, data to a board that waits, no data to one that is barred, and the owner, clean and bare, to home, all of whom are not valid; of
 -- block 0, data and no data to those who are valid
@@ -110,8 +110,8 @@ mail4 = mail 2 0 0 27 Away false zeros
 abbrev pub mesh : List Message
 mesh = mail0 ∷ mail1 ∷ mail2 ∷ mail3 ∷ mail4 ∷ []
 
-abbrev pub before : Rack
-before = rack block0 block1 block2 mesh
+abbrev pub diverse : Rack
+diverse = rack block0 block1 block2 mesh
 
 -- refused, each with the number that stands at its place in `refusals`
 abbrev pub refusedSteps : List Step
@@ -124,77 +124,77 @@ abbrev pub refusals : List ℕ
 refusals = 5 ∷ 6 ∷ 3 ∷ 4 ∷ 7 ∷ 8 ∷ 9 ∷ 10 ∷ 11 ∷ 11 ∷ 12 ∷ 6 ∷ 14 ∷ 4 ∷ 15 ∷ 16 ∷ 4 ∷ 17 ∷ 18 ∷ 8 ∷ 5 ∷ []
 
 pub record AfterEachStep : Type 0 where
-  pub is-sound : sound before ≡ true
+  pub is-sound : sound diverse ≡ true
   -- load: gives the word, at home and at a board
-  pub load-home : rules before (Load 0 0 5) ≡ accepted (Word 0xA05) before
-  pub load : rules before (Load 3 2 5) ≡ accepted (Word 0xC35) before
+  pub load-home : rules diverse (Load 0 0 5) ≡ accepted (Word 0xA05) diverse
+  pub load : rules diverse (Load 3 2 5) ≡ accepted (Word 0xC35) diverse
   -- store: the word in that component only; the owner there becomes dirty
   pub store :
-      rules before (Store 2 1 5 99)
+      rules diverse (Store 2 1 5 99)
       ≡ accepted Done
       (rack block0
-        (block (left 0xB00) (left 0xB10) (cell 59 Dirty true (0xB20 ∷ 0xB21 ∷ 0xB22 ∷ 0xB23 ∷ 0xB24 ∷ 99 ∷ 0xB26 ∷ 0xB27 ∷ [])) (left 0xB30) (left 0xB40) sets1)
+        (block (stale 0xB00) (stale 0xB10) (cell 59 Dirty true (0xB20 ∷ 0xB21 ∷ 0xB22 ∷ 0xB23 ∷ 0xB24 ∷ 99 ∷ 0xB26 ∷ 0xB27 ∷ [])) (stale 0xB30) (stale 0xB40) sets1)
         block2 mesh)
   -- send: takes those tokens and appends the message, with the words if data is yes; the component's words stay
   pub send :
-      rules before (Send 1 0 3 5 true true)
+      rules diverse (Send 1 0 3 5 true true)
       ≡ accepted Done
-      (rack (block cell00 (cell 1 Away true (eight 0xA10)) cell02 (left 0xA30) cell04 sets0) block1 block2
+      (rack (block cell00 (cell 1 Away true (eight 0xA10)) cell02 (stale 0xA30) cell04 sets0) block1 block2
         (mail0 ∷ mail1 ∷ mail2 ∷ mail3 ∷ mail4 ∷ mail 1 3 0 5 Dirty true (eight 0xA10) ∷ []))
   -- if nothing is held afterwards, valid becomes no
   pub send-all :
-      rules before (Send 4 0 1 2 false false)
+      rules diverse (Send 4 0 1 2 false false)
       ≡ accepted Done
-      (rack (block cell00 cell01 cell02 (left 0xA30) (left 0xA40) sets0) block1 block2
+      (rack (block cell00 cell01 cell02 (stale 0xA30) (stale 0xA40) sets0) block1 block2
         (mail0 ∷ mail1 ∷ mail2 ∷ mail3 ∷ mail4 ∷ mail 4 1 0 2 Away false zeros ∷ []))
   -- deliver: removes that message, the rest keeping their order, and adds its tokens to the target; with data, the target's words become the message's and
   -- valid becomes yes
   pub deliver-data :
-      rules before (Deliver 0)
+      rules diverse (Deliver 0)
       ≡ accepted (Served 1 2)
-      (rack block0 block1 (block cell20 (cell 20 Away true (eight 0xD00)) (left 0xC20) cell23 (left 0xC40) sets2) (mail1 ∷ mail2 ∷ mail3 ∷ mail4 ∷ []))
+      (rack block0 block1 (block cell20 (cell 20 Away true (eight 0xD00)) (stale 0xC20) cell23 (stale 0xC40) sets2) (mail1 ∷ mail2 ∷ mail3 ∷ mail4 ∷ []))
   pub deliver-no-data :
-      rules before (Deliver 1)
+      rules diverse (Deliver 1)
       ≡ accepted (Served 2 2)
-      (rack block0 block1 (block cell20 cell21 (cell 11 Away false (eight 0xC20)) cell23 (left 0xC40) sets2) (mail0 ∷ mail2 ∷ mail3 ∷ mail4 ∷ []))
+      (rack block0 block1 (block cell20 cell21 (cell 11 Away false (eight 0xC20)) cell23 (stale 0xC40) sets2) (mail0 ∷ mail2 ∷ mail3 ∷ mail4 ∷ []))
   -- home, receiving a clean owner without data, becomes valid with the words it already has
   pub deliver-bare :
-      rules before (Deliver 2)
+      rules diverse (Deliver 2)
       ≡ accepted (Served 0 2)
-      (rack block0 block1 (block (cell 19 Clean true (eight 0xC00)) cell21 (left 0xC20) cell23 (left 0xC40) sets2) (mail0 ∷ mail1 ∷ mail3 ∷ mail4 ∷ []))
+      (rack block0 block1 (block (cell 19 Clean true (eight 0xC00)) cell21 (stale 0xC20) cell23 (stale 0xC40) sets2) (mail0 ∷ mail1 ∷ mail3 ∷ mail4 ∷ []))
   pub deliver-data-to-valid :
-      rules before (Deliver 3)
+      rules diverse (Deliver 3)
       ≡ accepted (Served 4 0)
-      (rack (block cell00 cell01 cell02 (left 0xA30) (cell 14 Away true (eight 0xE00)) sets0) block1 block2 (mail0 ∷ mail1 ∷ mail2 ∷ mail4 ∷ []))
+      (rack (block cell00 cell01 cell02 (stale 0xA30) (cell 14 Away true (eight 0xE00)) sets0) block1 block2 (mail0 ∷ mail1 ∷ mail2 ∷ mail4 ∷ []))
   pub deliver-no-data-to-valid :
-      rules before (Deliver 4)
+      rules diverse (Deliver 4)
       ≡ accepted (Served 0 0)
-      (rack (block (cell 31 Away true (eight 0xA00)) cell01 cell02 (left 0xA30) cell04 sets0) block1 block2 (mail0 ∷ mail1 ∷ mail2 ∷ mail3 ∷ []))
+      (rack (block (cell 31 Away true (eight 0xA00)) cell01 cell02 (stale 0xA30) cell04 sets0) block1 block2 (mail0 ∷ mail1 ∷ mail2 ∷ mail3 ∷ []))
   -- raise: the board joins the waiting set, and no barring set; so does a board that has all
   pub raise :
-      rules before (Raise 1 1)
-      ≡ accepted Done (rack block0 (block (left 0xB00) (left 0xB10) cell12 (left 0xB30) (left 0xB40) (18 ∷ 0 ∷ 0 ∷ 16 ∷ 0 ∷ [])) block2 mesh)
+      rules diverse (Raise 1 1)
+      ≡ accepted Done (rack block0 (block (stale 0xB00) (stale 0xB10) cell12 (stale 0xB30) (stale 0xB40) (18 ∷ 0 ∷ 0 ∷ 16 ∷ 0 ∷ [])) block2 mesh)
   pub raise-with-all :
-      rules before (Raise 2 1)
-      ≡ accepted Done (rack block0 (block (left 0xB00) (left 0xB10) cell12 (left 0xB30) (left 0xB40) (20 ∷ 0 ∷ 0 ∷ 16 ∷ 0 ∷ [])) block2 mesh)
+      rules diverse (Raise 2 1)
+      ≡ accepted Done (rack block0 (block (stale 0xB00) (stale 0xB10) cell12 (stale 0xB30) (stale 0xB40) (20 ∷ 0 ∷ 0 ∷ 16 ∷ 0 ∷ [])) block2 mesh)
   -- lower: the board leaves the waiting set and every barring set of that block; its own barring set becomes the waiting set that remains
   pub lower :
-      rules before (Lower 4 2)
-      ≡ accepted Done (rack block0 block1 (block cell20 cell21 (left 0xC20) cell23 (left 0xC40) (10 ∷ 0 ∷ 2 ∷ 0 ∷ 10 ∷ [])) mesh)
+      rules diverse (Lower 4 2)
+      ≡ accepted Done (rack block0 block1 (block cell20 cell21 (stale 0xC20) cell23 (stale 0xC40) (10 ∷ 0 ∷ 2 ∷ 0 ∷ 10 ∷ [])) mesh)
   pub lower-valid :
-      rules before (Lower 3 2)
-      ≡ accepted Done (rack block0 block1 (block cell20 cell21 (left 0xC20) cell23 (left 0xC40) (18 ∷ 0 ∷ 18 ∷ 18 ∷ 0 ∷ [])) mesh)
+      rules diverse (Lower 3 2)
+      ≡ accepted Done (rack block0 block1 (block cell20 cell21 (stale 0xC20) cell23 (stale 0xC40) (18 ∷ 0 ∷ 18 ∷ 18 ∷ 0 ∷ [])) mesh)
   -- forward: all held tokens to the active board, which is board 1; data exactly if valid
   pub forward :
-      rules before (Forward 3 2)
+      rules diverse (Forward 3 2)
       ≡ accepted Done
-      (rack block0 block1 (block cell20 cell21 (left 0xC20) (left 0xC30) (left 0xC40) sets2)
+      (rack block0 block1 (block cell20 cell21 (stale 0xC20) (stale 0xC30) (stale 0xC40) sets2)
         (mail0 ∷ mail1 ∷ mail2 ∷ mail3 ∷ mail4 ∷ mail 3 1 2 9 Away true (eight 0xC30) ∷ []))
   pub forward-no-data :
-      rules before (Forward 0 2)
+      rules diverse (Forward 0 2)
       ≡ accepted Done
-      (rack block0 block1 (block (left 0xC00) cell21 (left 0xC20) cell23 (left 0xC40) sets2)
+      (rack block0 block1 (block (stale 0xC00) cell21 (stale 0xC20) cell23 (stale 0xC40) sets2)
         (mail0 ∷ mail1 ∷ mail2 ∷ mail3 ∷ mail4 ∷ mail 0 1 2 3 Away false zeros ∷ []))
   -- a refusal gives only its number and changes nothing
-  pub refused : map (λ s. code (reply (rules before s))) refusedSteps ≡ refusals
-  pub unchanged : run before refusedSteps ≡ before
+  pub refused : map (λ s. code (reply (rules diverse s))) refusedSteps ≡ refusals
+  pub unchanged : run diverse refusedSteps ≡ diverse
