@@ -105,6 +105,7 @@ edges =
       tokens = refl;
       lengths = refl;
       longest = refl;
+      longest-fits = refl;
       buffer = refl;
     }
 

@@ -169,7 +169,8 @@ pub record Edges : Type 0 where
   pub tokens : map (opens 15 32) (14 ∷ 15 ∷ 64 ∷ 65 ∷ 271 ∷ []) ≡ 19 ∷ 0 ∷ 0 ∷ 19 ∷ 19 ∷ []
   -- the record takes at most 65,536 bytes
   pub lengths : map recordLength (1 ∷ 32 ∷ []) ≡ 3224 ∷ 22816 ∷ []
-  pub longest : leb longestRecord 65536 ≡ true
+  pub longest : longestRecord ≡ 22816
+  pub longest-fits : leb longestRecord 65536 ≡ true
   -- 20 exactly where the buffer is shorter than the record
   pub buffer : map (λ l. code (replyOf (openCheck 1 1 1 l))) (3223 ∷ 3224 ∷ []) ≡ 20 ∷ 0 ∷ []
 

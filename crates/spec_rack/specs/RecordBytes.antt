@@ -1,5 +1,6 @@
--- Document 01, "The rack": two records byte for byte, written by hand from the tables of docs/RECORD.md, beside the racks that they hold. Each equation is
--- computed: they hold `put`, `get` and `soundBytes` to those tables.
+-- Document 01, "The rack", with document 02, No. 2: two records byte for byte, written by hand from the tables of docs/RECORD.md, beside the racks that they
+-- hold. The equations hold `put`, `get` and `soundBytes` to those tables. Between them the records have a clean and a dirty owner, each in a block and in a
+-- message.
 use Prim.Native.Nat.{ℕ, _+_, _*_}
 use mathlib.Core.Path.{_≡_}
 use mathlib.Core.Bool.{Bool, true, false}
@@ -58,24 +59,29 @@ smallCells = none 32 ++ smallWords ++ smallWords ++ room (13 * 32)
 abbrev pub smallRecord : List ℕ
 smallRecord = smallHeader ++ smallMesh ++ smallLanes ++ smallSets ++ smallCells
 
--- ---- (15, 2, 64): of block 0 board 15 has the owner, clean, and home and a message the rest; board 14 lowered while 1 and 15 waited. Of block 1 board 14 has
--- plain tokens, and the owner is on its way from 14 to 15, dirty.
+-- ---- (15, 3, 64): of block 0 board 15 has the owner, clean, and home and a message the rest; board 14 lowered while 1 and 15 waited. Of block 1 board 14 has
+-- plain tokens, and the owner is on its way from 14 to 15, dirty. Of block 2 board 1 has plain tokens; the owner is on its way home, clean and without data,
+-- and plain tokens with data are on their way to board 2.
 
 abbrev pub large : Rack
 large =
-    run (fresh 15 2 64)
-    (Send 0 0 15 20 true true ∷ Deliver 0 ∷ Send 0 1 14 63 true true ∷ Deliver 0 ∷ Store 14 1 2 0xFFFEFDFC ∷ Send 14 1 15 5 true true ∷ Send 15 0 0 3 false false
+    run (fresh 15 3 64)
+    (Send 0 0 15 20 true true ∷ Deliver 0 ∷ Send 0 1 14 63 true true ∷ Deliver 0 ∷ Store 14 1 2 0xFFFEFDFC ∷ Send 0 2 1 63 true true ∷ Deliver 0
+    ∷ Send 14 1 15 5 true true ∷ Send 15 0 0 3 false false ∷ Send 1 2 0 4 true false ∷ Send 1 2 2 6 false true
     ∷ Raise 15 0 ∷ Raise 14 0 ∷ Raise 1 0 ∷ Lower 14 0 ∷ [])
 
 abbrev pub largeWords : List ℕ
 largeWords = none 8 ++ 0xFF ∷ 0xFE ∷ 0xFD ∷ 0xFC ∷ none 20
 
 abbrev pub largeHeader : List ℕ
-largeHeader = 15 ∷ 2 ∷ 64 ∷ 2 ∷ room 28
+largeHeader = 15 ∷ 3 ∷ 64 ∷ 4 ∷ room 28
 
--- message 0 has the owner, its mark and data; message 1 plain tokens without data
+-- message 0 has the owner, its mark and data; message 1 plain tokens without data; message 2 the owner, without a mark and without data; message 3 plain tokens
+-- and data, eight words 0
 abbrev pub largeMesh : List ℕ
-largeMesh = (14 ∷ 15 ∷ 1 ∷ 5 ∷ 1 ∷ 1 ∷ 1 ∷ 0 ∷ largeWords) ++ (15 ∷ 0 ∷ 0 ∷ 3 ∷ 0 ∷ 0 ∷ 0 ∷ 0 ∷ none 32) ++ room (62 * 40)
+largeMesh =
+    (14 ∷ 15 ∷ 1 ∷ 5 ∷ 1 ∷ 1 ∷ 1 ∷ 0 ∷ largeWords) ++ (15 ∷ 0 ∷ 0 ∷ 3 ∷ 0 ∷ 0 ∷ 0 ∷ 0 ∷ none 32) ++ (1 ∷ 0 ∷ 2 ∷ 4 ∷ 1 ∷ 0 ∷ 0 ∷ 0 ∷ none 32)
+    ++ (1 ∷ 2 ∷ 2 ∷ 6 ∷ 0 ∷ 1 ∷ 0 ∷ 0 ∷ none 32) ++ room (60 * 40)
 
 -- block 0: home and board 15; the barring set of board 14, and the waiting set, with boards 1 and 15
 abbrev pub largeBlock0 : List ℕ
@@ -88,40 +94,49 @@ abbrev pub largeBlock1 : List ℕ
 largeBlock1 =
     (none 14 ++ 58 ∷ 0 ∷ []) ++ none 16 ++ (none 14 ++ 1 ∷ 0 ∷ []) ++ none 16 ++ room 16 ++ none 34 ++ room 6 ++ none (14 * 32) ++ largeWords ++ none 32
 
+-- block 2: board 1
+abbrev pub largeBlock2 : List ℕ
+largeBlock2 = (0 ∷ 53 ∷ none 14) ++ none 16 ++ (0 ∷ 1 ∷ none 14) ++ none 16 ++ room 16 ++ none 34 ++ room 6 ++ none (16 * 32)
+
 abbrev pub largeRecord : List ℕ
-largeRecord = largeHeader ++ largeMesh ++ largeBlock0 ++ largeBlock1
+largeRecord = largeHeader ++ largeMesh ++ largeBlock0 ++ largeBlock1 ++ largeBlock2
 
--- ---- damage: the record with another byte at a place
+pub record RecordBytes : Type 0 where
+  pub small-length : length smallRecord ≡ 3224
+  pub large-length : length largeRecord ≡ 4488
+  -- written over a buffer of AA, and read
+  pub small-put : put small (room 3224) ≡ smallRecord
+  pub small-get : get smallRecord ≡ small
+  pub small-sound : soundBytes smallRecord ≡ true
+  pub large-put : put large (room 4488) ≡ largeRecord
+  pub large-get : get largeRecord ≡ large
+  pub large-sound : soundBytes largeRecord ≡ true
 
-abbrev pub damaged : List ℕ → List (ℕ × ℕ) → List Bool
-damaged s l = map (λ p. soundBytes (set s (p .0) (p .1))) l
+-- ---- the record with other bytes at some places
+
+abbrev pub altered : List ℕ → List (ℕ × ℕ) → List ℕ
+altered s [] = s
+altered s (p ∷ ps) = altered (set s (p .0) (p .1)) ps
 
 -- where the only block of `small` starts
 abbrev pub block : ℕ
 block = 32 + 64 * 40
 
-pub record RecordBytes : Type 0 where
-  pub small-length : length smallRecord ≡ 3224
-  pub large-length : length largeRecord ≡ 3856
-  -- written over a buffer of AA, and read
-  pub small-put : put small (room 3224) ≡ smallRecord
-  pub small-get : get smallRecord ≡ small
-  pub small-sound : soundBytes smallRecord ≡ true
-  pub large-put : put large (room 3856) ≡ largeRecord
-  pub large-get : get largeRecord ≡ large
-  pub large-sound : soundBytes largeRecord ≡ true
+pub record AlteredBytes : Type 0 where
   -- one byte of each sort that makes `small` unsound: the mark of board 2, which has no owner; a plain token and a mark above N; a mark of the message, which
   -- has no owner; its byte 7; place 0 of the barring sets, and place 3; valid of 2
   pub unsound :
-      damaged smallRecord
+      map (λ p. soundBytes (altered smallRecord (p ∷ [])))
       ((block + 50, 1) ∷ (block + 3, 1) ∷ (block + 51, 1) ∷ (32 + 6, 1) ∷ (32 + 7, 1) ∷ (block + 81, 1) ∷ (block + 87, 1) ∷ (block + 33, 2) ∷ [])
       ≡ replicate 8 false
-  -- and of room, which does not: in the header, behind the count of messages, behind the lanes; a word above N
-  pub sound : damaged smallRecord ((4, 1) ∷ (72, 1) ∷ (block + 64, 1) ∷ (block + 120 + 3 * 32, 1) ∷ []) ≡ replicate 4 true
+  -- and bytes of room, which do not: in the header, behind the count of messages, behind the lanes and the sets; a word above N
+  pub sound : soundBytes (altered smallRecord ((4, 0x55) ∷ (72, 0x55) ∷ (block + 64, 0x55) ∷ (block + 114, 0x55) ∷ (block + 120 + 3 * 32, 0x55) ∷ [])) ≡ true
 
--- ---- the offsets and sizes of RecordLayout.antt that its layouts do not use: each is where the layout has that figure
+-- ---- the offsets and sizes of RecordLayout.antt, those too that its layouts do not use: each is where the layout has that figure
 
 pub record Offsets : Type 0 where
+  -- N, B, T and the count of messages
+  pub counts : map (λ (count : List ℕ → ℕ). count largeRecord) (layout.boardsIn ∷ layout.blocksIn ∷ layout.tokensIn ∷ layout.messagesIn ∷ []) ≡ 15 ∷ 3 ∷ 64 ∷ 4 ∷ []
   -- a message of any header
   pub message : (c k b p : ℕ) (o : Owner) (d : Bool)
       → map (λ at. getD (layout.message .write (record { header = record { sender = c; target = k; block = b; plain = p; owner = o; «data» = d }; words = replicate 8 0x01010101 }) (room 40)) at 0)
@@ -131,16 +146,18 @@ pub record Offsets : Type 0 where
   -- where messages, blocks and the words of a component start
   pub messages : map (λ i. slice (layout.messageOffset i) 8 largeRecord) (0 ∷ 1 ∷ []) ≡ (14 ∷ 15 ∷ 1 ∷ 5 ∷ 1 ∷ 1 ∷ 1 ∷ 0 ∷ []) ∷ (15 ∷ 0 ∷ 0 ∷ 3 ∷ 0 ∷ 0 ∷ 0 ∷ 0 ∷ []) ∷ []
   pub message-words : slice (layout.messageOffset 0 + layout.messageWordsOffset) layout.wordsSize largeRecord ≡ largeWords
-  pub blocks : map (λ b. slice (layout.blockOffset b) 16 largeRecord) (0 ∷ 1 ∷ []) ≡ (43 ∷ none 14 ++ 17 ∷ []) ∷ (none 14 ++ 58 ∷ 0 ∷ []) ∷ []
+  pub blocks :
+      map (λ b. slice (layout.blockOffset b) 16 largeRecord) (0 ∷ 1 ∷ 2 ∷ [])
+      ≡ (43 ∷ none 14 ++ 17 ∷ []) ∷ (none 14 ++ 58 ∷ 0 ∷ []) ∷ (0 ∷ 53 ∷ none 14) ∷ []
   pub words : slice (layout.cellWordsOffset 1 14) layout.wordsSize largeRecord ≡ largeWords
-  -- the four lanes: a clean owner at board 15 of the one, a dirty one at board 1 of the other
-  pub large-lanes : map (λ c. layout.lanesAt (layout.blockOffset 0 + c) largeRecord) (0 ∷ 14 ∷ 15 ∷ []) ≡ (43, (Away, true)) ∷ (0, (Away, false)) ∷ (17, (Clean, true)) ∷ []
-  pub small-lanes : map (λ c. layout.lanesAt (layout.blockOffset 0 + c) smallRecord) (0 ∷ 1 ∷ 2 ∷ []) ≡ (0, (Away, false)) ∷ (0, (Dirty, true)) ∷ (1, (Away, true)) ∷ []
+  -- the four lanes of a block: a clean owner at board 15 of the one, a dirty one at board 1 of the other
+  pub large-lanes : map (λ c. layout.lanesAt c largeBlock0) (0 ∷ 14 ∷ 15 ∷ []) ≡ (43, (Away, true)) ∷ (0, (Away, false)) ∷ (17, (Clean, true)) ∷ []
+  pub small-lanes : map (λ c. layout.lanesAt c smallLanes) (0 ∷ 1 ∷ 2 ∷ []) ≡ (0, (Away, false)) ∷ (0, (Dirty, true)) ∷ (1, (Away, true)) ∷ []
   pub lanes-size : layout.byteLanes 15 .size ≡ layout.lanesSize
-  -- the sets
-  pub claims : layout.claimsAtOffset 15 (layout.blockOffset 0 + layout.claimsOffset) largeRecord ≡ 0x8002 ∷ none 13 ++ 0x8002 ∷ 0 ∷ []
-  pub sets : map (λ i. big 2 .read (slice (layout.blockOffset 0 + layout.claimsOffset + layout.setOffset i) 2 largeRecord)) (0 ∷ 13 ∷ 14 ∷ 15 ∷ []) ≡ 0x8002 ∷ 0 ∷ 0x8002 ∷ 0 ∷ []
+  -- the sets of a block
+  pub claims : layout.claimsAtOffset 15 layout.claimsOffset largeBlock0 ≡ 0x8002 ∷ none 13 ++ 0x8002 ∷ 0 ∷ []
+  pub sets : map (λ i. big 2 .read (slice (layout.claimsOffset + layout.setOffset i) 2 largeBlock0)) (0 ∷ 13 ∷ 14 ∷ 15 ∷ []) ≡ 0x8002 ∷ 0 ∷ 0x8002 ∷ 0 ∷ []
   pub claims-size : layout.claims 15 .size ≡ layout.claimsSize
   -- sizes, and the longest record
   pub sizes : layout.message .size ∷ layout.words .size ∷ layout.block 15 .size ∷ layout.header .size ∷ [] ≡ layout.messageSize ∷ layout.wordsSize ∷ layout.blockSize ∷ layout.headerSize ∷ []
-  pub record-size : layout.rackLayout 15 2 2 .size ≡ layout.recordLength 2
+  pub record-size : layout.rackLayout 15 3 4 .size ≡ layout.recordLength 3
