@@ -21,8 +21,10 @@ pub printed : Printed
 unfolding runAll when_refuse_else_ check after answer rules letterCheck letter meshLimit stored sent delivered forwarded raiseCheck raised lowerCheck lowered bit member insert remove firstFrom lowest opening openingCheck repliesOf ruledText lines stepBytes fieldBytes recordBytes fieldArray frameSize frames readRecord readBody hasHeader kindOf decimal digits replyText line text openingReply openCheck openReply openAfter openingAfter
 printed =
     record {
+      characters = refl;
       ok = refl;
       word = refl;
+      all-digits = refl;
       refusal = refl;
       longest = refl;
       served = refl;
