@@ -73,7 +73,7 @@ returns-3 : tie.Need-returns-3
 returns-3 c =
     let framed = c .before .before .before in
     let bs = framed .before .before .before .before .args .bytes .now in
-    whole bs _ (framed .before .before .if1 .left) (framed .before .u16-at .ensures ∙ big-read 2 1 bs) (framed .if2 .left) (c .read-body .ensures)
+    whole bs _ (framed .before .before .if1 .left) (framed .before .u16-at .ensures ∙ big-read 2 1 bs) (omega (arith, framed .if2 .left)) (c .read-body .ensures)
 
 pub parse-spec : {M : Type 1} → statement M
 parse-spec =
