@@ -31,7 +31,7 @@ module _ (list : List ℕ) (at : ℕ) (h : at < length list) where
     pub after : at < end
     pub inside : end ≤ length list
 
-  pub cut-few : length list - at < 3 → Cut (length list)
+  pub cut-few : length list - at ≤ 3 → Cut (length list)
   unfolding frameSize
   cut-few l = record { is = omega (arith, length-drop at list); after = h; inside = omega arith }
 

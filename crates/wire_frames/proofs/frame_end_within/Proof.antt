@@ -42,7 +42,7 @@ returns-3 : tie.Need-returns-3
 returns-3 c =
     let s = c .before .before .before .before in
     let size = length-read (s .args .list .now) (s .args .at) (omega arith) (c .before .u16-at .ensures) in
-    let k = cut-whole (s .args .list .now) (s .args .at) (s .pre) (c .before .before .if1 .left) (rw (← size) (c .if2 .left)) in
+    let k = cut-whole (s .args .list .now) (s .args .at) (s .pre) (c .before .before .if1 .left) (omega (arith, size)) in
     rw size (k .is, k .after, k .inside)
 
 pub frame-end-within-spec : {M : Type 1} → statement M
