@@ -68,6 +68,13 @@ returns-2 c =
     let p = way .before .before .parse in
     short _ (p .result .step) _ (stood (p .result .ok) (p .result .step) _ (p .ensures) (not-false (p .result .ok) (way .if1 .left))) (omega arith) (c .pack-refused2 .ensures)
 
+-- The answer stands before what its call needs: too few places that are not refused are refused here.
+returns-3 : tie.Need-returns-3
+returns-3 c =
+    let way = c .before .before .before .before .before .before in
+    let p = way .before .before .parse in
+    full _ (p .result .step) _ (stood (p .result .ok) (p .result .step) _ (p .ensures) (not-false (p .result .ok) (way .if1 .left))) (omega arith) (c .pack-done .ensures) (c .before .before .before .put-field-array .ensures)
+
 put-field-array-requires : tie.Need-put-field-array-requires
 put-field-array-requires c κs = search needs
 
@@ -76,12 +83,6 @@ pack-done-requires c κs = search needs
 
 same-length : tie.Need-same-length
 same-length c = search needs
-
-returns-3 : tie.Need-returns-3
-returns-3 c =
-    let way = c .before .before .before .before .before .before in
-    let p = way .before .before .parse in
-    full _ (p .result .step) _ (stood (p .result .ok) (p .result .step) _ (p .ensures) (not-false (p .result .ok) (way .if1 .left))) (omega arith) (c .pack-done .ensures) (c .before .before .before .put-field-array .ensures)
 
 pub hyl-wire-read-spec : {M : Type 1} → statement M
 hyl-wire-read-spec =
