@@ -1,11 +1,12 @@
 -- `wire_writer::validate::is_step` meets its contract: the kind and its fields make up the sum of the numbers that tell a step.
+use native.Mathlib.Omega.{arith}
 use Rattle.wire_writer.proofs.FieldArraySum.{few, tells}
 use borrow.Author.Needs.{needs}
 use Rattle.wire_writer.proofs.validate.is_step.Statement.{statement}
 use Rattle.wire_writer.proofs.validate.is_step.Tie as tie
 
 returns : tie.Need-returns
-returns c = few _ (c .if1 .taken)
+returns c = few _ (omega arith)
 
 shared-slice-read-make-up : tie.Need-shared-slice-read-fields-sum-to
 shared-slice-read-make-up c = search needs
@@ -19,7 +20,7 @@ fields-sum-to-requires c κs = search needs
 returns-2 : tie.Need-returns-2
 returns-2 c =
     let sum = c .before in
-    tells _ (sum .before .before .if1 .left) _ (sum .total .ensures) _ (c .fields-sum-to .ensures)
+    tells _ (omega arith) _ (sum .total .ensures) _ (c .fields-sum-to .ensures)
 
 pub is-step-spec : {M : Type 1} → statement M
 is-step-spec =
