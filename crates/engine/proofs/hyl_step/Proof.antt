@@ -13,7 +13,7 @@ same-length : tie.Need-same-length
 same-length c = search needs
 
 returns : tie.Need-returns
-returns c = (c .before .before .step-result .ensures .0, c .before .before .step-result .ensures .1)
+returns c = search needs
 
 pub hyl-step-spec : {M : Type 1} → statement M
 hyl-step-spec = tie.close (tie.spec sound-requires step-result-requires same-length returns)
