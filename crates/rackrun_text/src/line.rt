@@ -78,7 +78,7 @@ fn put_served(out: &mut [u8], at: usize, component: u8, block: u8) -> usize
 
 // Places `ok` and the newline.
 fn put_done(out: &mut [u8], at: usize) -> usize
-    requires { ⌜ at + 10 ≤ length (now out) ⌝ }
+    requires { ⌜ at + 3 ≤ length (now out) ⌝ }
     ensures { λ r. ⌜ (r ≡ at + length (replyLine (Reply.Accepted Answer.Done))) × (now (out .exit) ≡ place at (replyLine (Reply.Accepted Answer.Done)) (now (out .entry))) ⌝ }
 {
     out[at] = b'o';
