@@ -1,10 +1,12 @@
 -- What the calls of a deliver leave together: the target's words with data, then its tokens, then the mesh without the message.
 use mathlib.Core.Path.{_≡_, sym, ap, _∙_, subst}
+use mir.Val.{Fits}
+use mir.Syntax.{w8}
 use mathlib.Core.Bool.{Bool, true, false, cond}
 use mathlib.Core.List.{List}
 use Prim.Native.Nat.{ℕ, _+_, _<_}
 use native.Mathlib.Omega.{arith}
-use lib.ListN.{length}
+use lib.ListN.{length, getD}
 use Rattle.spec_base.specs.Folds.{removeAt}
 use Rattle.spec_base.proofs.Folds.{all-removed, length-removed}
 use Rattle.spec_base.proofs.Tests.{cond-of}
@@ -17,9 +19,9 @@ use Rattle.spec_rack.specs.declared.Message.{Message}
 use Rattle.spec_rack.specs.declared.Answer.the-variants.{Served}
 use Rattle.spec_rack.specs.declared.Reply.the-variants.{Accepted}
 use Rattle.spec_rack.specs.Rack.{Cell, Rack, present, supplied, cellAt, messageAt}
-use Rattle.spec_rack.specs.Rules.{withCell, withTokens, delivered, check, answer}
+use Rattle.spec_rack.specs.Rules.{withCell, withTokens, delivered, check, answer, after}
 use Rattle.spec_rack.specs.RecordLayout.{get, put, messagesIn}
-use Rattle.spec_rack.specs.Entries.{replyToStep}
+use Rattle.spec_rack.specs.Entries.{replyToStep, bufferAfter}
 use Rattle.spec_rack.proofs.SoundnessFacts.{Sound}
 use Rattle.spec_rack.proofs.BlockInvariant.{message-sound, cell-few, message-few, owner-in-flight}
 use Rattle.spec_rack.proofs.LayoutParts.{WordsFit, CellFits, MessageFits}
@@ -31,17 +33,13 @@ use Rattle.record.specs.Changes.{TokenStateOf, withTokenState, withWords, repla
 use Rattle.record.proofs.Sequencing.{message-fits, cell-fits}
 use Rattle.record.proofs.MeshBytes.{cell-of-state, fits, cell-read, cell-in-cell, cell-there, cell-cell, cell-mesh}
 use Rattle.step_checks.proofs.CheckFacts.{deliver-passed}
-use Rattle.step_checks.proofs.StepOutcome.{accepted-is}
+use Rattle.step_checks.proofs.StepOutcome.{accepted-is, written-is}
 use Rattle.step_deliver.specs.Filling.{CanFill}
 
 -- ---- before anything is changed
 
 pub in-mesh : (s : List ℕ) (i : ℕ) → SoundRecord s × (check (get s) (Deliver i) ≡ Pass) → i < messagesIn s
 in-mesh s i pre = deliver-passed s (pre .0) i (pre .1)
-
--- what reading a header asks; the position is looked for first, since it is what a removed message lacks
-pub at-position : {s : List ℕ} {i : ℕ} → i < messagesIn s → InLayout s → InLayout s × (i < messagesIn s)
-at-position below whole = (whole, below)
 
 pub can-fill : (s : List ℕ) (i : ℕ) (h : MessageHeader) → SoundRecord s × (check (get s) (Deliver i) ≡ Pass) → h ≡ messageAt (get s) i .header → CanFill s i h
 can-fill s i h pre e =
@@ -104,9 +102,10 @@ module _ (s : List ℕ) (bytes : Bytes s) (i : ℕ) (h : MessageHeader) (can : C
         ≡ withWords (cellAt (get s) (h .block) (h .target)) (cond (h .«data») (messageAt (get s) i .words) (cellAt (get s) (h .block) (h .target) .words))
     pub covered : (y : Cell) → CellFits y → (s₂ : List ℕ) → s₂ ≡ put (replaceCell (get s₁) (h .block) (h .target) y) s₁ → s₂ ≡ put (replaceCell (get s) (h .block) (h .target) y) s
 
-  pub after-copy : h .«data» ≡ true → (s₁ : List ℕ)
-      → s₁ ≡ put (replaceCell (get s) (h .block) (h .target) (withWords (cellAt (get s) (h .block) (h .target)) (messageAt (get s) i .words))) s → AfterWords s₁
-  after-copy d s₁ is =
+  pub after-copy : h .«data» ≡ true → (copied s₁ : List ℕ)
+      → copied ≡ put (replaceCell (get s) (h .block) (h .target) (withWords (cellAt (get s) (h .block) (h .target)) (messageAt (get s) i .words))) s → s₁ ≡ copied → AfterWords s₁
+  after-copy d copied s₁ copies same =
+      let is = same ∙ copies in
       let y : Cell = withWords x (m .words) in
       record {
         in-cell = cell-in-cell s bytes (can .sound) (h .block) (h .target) (can .target) y (x-fits .0, m-fits .1) s₁ is (h .block) (h .target) (can .target);
@@ -173,3 +172,22 @@ module _ (s : List ℕ) (bytes : Bytes s) (i : ℕ) (h : MessageHeader) (can : C
         (all-removed MessageFits (get s .mesh) i (fits s bytes (can .sound) .mesh-fits)) s₂
         (is′ ∙ ap (λ (k : Rack). put (withMesh (get s₁) (removeAt (k .mesh) i)) s₁) read₁)
         ∙ ap (λ (k : MessageHeader). put (withCell (get s) (k .block) (k .target) (withTokens (cellAt (get s) (k .block) (k .target)) m) (removeAt (get s .mesh) i)) s) (can .header)
+
+-- ---- from the bytes at the start, by what each call left
+
+module _ (s : List ℕ) (known : (k : ℕ) → Fits w8 (getD s k 0)) (i : ℕ) (h : MessageHeader) (pre : SoundRecord s × (check (get s) (Deliver i) ≡ Pass)) (e : h ≡ messageAt (get s) i .header)
+    (s₁ : List ℕ) (is : s₁ ≡ put (replaceCell (get s) (h .block) (h .target) (withTokens (cellAt (get s) (h .block) (h .target)) (messageAt (get s) i))) s) where
+  bytes : Bytes s
+  bytes = λ k. known k .fits
+
+  -- the target is filled, and the message still in the mesh
+  pub still-laid-out : InLayout s₁
+  still-laid-out = can-remove s bytes i h (can-fill s i h pre e) s₁ is .0
+
+  pub still-there : i < messagesIn s₁
+  still-there = can-remove s bytes i h (can-fill s i h pre e) s₁ is .1
+
+  -- and once it is removed, the bytes are what the table's change leaves
+  pub message-goes : (s₂ : List ℕ) → s₂ ≡ put (withMesh (get s₁) (removeAt (get s₁ .mesh) i)) s₁ → s₂ ≡ bufferAfter s (Deliver i)
+  unfolding after
+  message-goes s₂ is′ = written-is s (Deliver i) s₂ (pre .1) (delivered-is s bytes i h (can-fill s i h pre e) s₁ is s₂ is′)

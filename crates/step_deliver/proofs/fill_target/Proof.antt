@@ -16,12 +16,7 @@ known c = λ k. c .before .slice-known .given k .fits
 
 -- with data they are copied, without they stay
 words-after : (c : tie.Joined1) → AfterWords (c .before .before .args .rec .now) (known c) (c .before .before .args .position) (c .before .before .args .header) (c .before .before .pre) (c .if1 .rec)
-words-after c =
-    let st = c .before .before in
-    ⊎-elim
-    (λ w. after-copy (st .args .rec .now) (known c) (st .args .position) (st .args .header) (st .pre) (w .0 .taken) (c .if1 .rec) (w .5 ∙ w .2 .ensures .1 .1))
-    (λ w. without-copy (st .args .rec .now) (known c) (st .args .position) (st .args .header) (st .pre) (w .0 .left) (c .if1 .rec) (w .1))
-    (c .if1 .came)
+words-after c = ⊎-elim (λ w. search after-copy) (λ w. search without-copy) (c .if1 .came)
 
 -- of either end of the message
 copy-words-requires : tie.Need-copy-words-requires
