@@ -1,10 +1,12 @@
 -- What the calls of a send leave together: the message at the end of the mesh, then the state less its tokens; a forward is the send of what the state tell.
 use mathlib.Core.Path.{_≡_, refl, sym, ap, _∙_}
+use mir.Val.{Fits}
+use mir.Syntax.{w8}
 use mathlib.Core.Bool.{Bool, true, false, cond}
 use mathlib.Core.List.{List, [], _∷_, _++_}
 use Prim.Native.Nat.{ℕ, _^_, _≤_, _<_}
 use native.Mathlib.Omega.{arith}
-use lib.ListN.{length}
+use lib.ListN.{length, getD}
 use Rattle.spec_base.specs.Folds.{All}
 use Rattle.spec_base.proofs.Folds.{all-snoc, all-replicate, length-snoc}
 use Rattle.spec_base.specs.Number.{Bytes}
@@ -82,6 +84,14 @@ module _ (s : List ℕ) (bytes : Bytes s) (c b p : ℕ) (can : CanSend s c b p) 
         (is′ ∙ ap (λ (y : Cell). put (replaceCell (get s₁) b c y) s₁)
         (cell-of-state (withoutTokens (cellAt (get s) b c) p o) (cellAt (get s₁) b c) h (takes (cellAt (get s) b c) told)
         (ap (λ (k : Rack). cellAt k b c .words) (mesh-read s bytes (can .ready) _ few all s₁ appended))))
+
+-- ---- from the bytes at the start, by what each call left
+
+pub tokens-gone : (s : List ℕ) → ((k : ℕ) → Fits w8 (getD s k 0)) → (c b t p : ℕ) (o d : Bool) → CanSend s c b p → t < 256
+    → (s₁ : List ℕ) → s₁ ≡ put (withMesh (get s) (get s .mesh ++ message (cellAt (get s) b c) c b t p o d ∷ [])) s
+    → (state kept : TokenState) → TokenStateOf (cellAt (get s) b c) state → ((y : Cell) → TokenStateOf y state → TokenStateOf (withoutTokens y p o) kept)
+    → (s₂ : List ℕ) → s₂ ≡ put (replaceCell (get s₁) b c (withTokenState (cellAt (get s₁) b c) kept)) s₁ → s₂ ≡ put (sent (get s) c b t p o d) s
+tokens-gone s known c b t p o d can small = sent-is s (λ k. known k .fits) c b p can t small o d
 
 -- ---- a forward: the send of what the state tell to the active board
 

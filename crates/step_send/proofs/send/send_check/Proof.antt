@@ -1,16 +1,14 @@
 -- `step_send::send::send_check` meets its contract: on the rack its lines are the table's.
-use mathlib.Core.Path.{refl, _∙_}
-use mathlib.Core.Bool.{not}
-use lib.Dec.{eqb}
 use borrow.Author.Needs.{needs}
-use Rattle.spec_wire.specs.declared.Refusal.the-variants.{OffRack, SelfSend, Claimed}
-use Rattle.spec_rack.specs.Rules.{check, meshFull}
-use Rattle.spec_rack.specs.RecordLayout.{get}
 use Rattle.step_checks.proofs.CheckLaws.{send-off-rack}
 use Rattle.step_checks.proofs.RackBounds.{block-on, in-cell}
-use Rattle.step_send.proofs.SendTable.{line-is, marks-tell, target-is}
+use Rattle.step_send.proofs.SendTable.{send-lines}
 use Rattle.step_send.proofs.send.send_check.Statement.{statement}
 use Rattle.step_send.proofs.send.send_check.Tie as tie
+
+-- The verdict is found by search among the lines, and before what the calls ask for, so that a line that asks more or less is refused at the verdict.
+returns-2 : tie.Need-returns-2
+returns-2 c = search send-lines
 
 off-rack-requires : tie.Need-off-rack-requires
 off-rack-requires c κs = search needs
@@ -44,22 +42,6 @@ shared-slice-read-line c = search needs
 
 line-requires-3 : tie.Need-line-requires-3
 line-requires-3 c κs = search needs
-
-returns-2 : tie.Need-returns-2
-unfolding check
-returns-2 c =
-    let c2 = c .before .before in
-    let c3 = c2 .before in
-    let stop = c3 .before in
-    let c4 = stop .before in
-    let c5 = c4 .before in
-    let c6 = c5 .before in
-    let c7 = c6 .before in
-    let c8 = c7 .before in
-    let s = c8 .before .before in
-    line-is OffRack (c .line3 .ensures) (target-is _ _ _ _ (c8 .off-rack .ensures) (c7 .if1 .left))
-    (line-is SelfSend (c2 .line2 .ensures) refl
-    (line-is Claimed (c3 .line .ensures) (stop .claimed .ensures ∙ (λ i. not (eqb (c4 .waiting-set .ensures i) 0))) (c5 .token-lines .ensures ∙ marks-tell (c6 .token-state .ensures) (s .args .target) (s .args .plain) (s .args .owner) (s .args .«data») (meshFull (get (s .args .rec .now))))))
 
 pub send-check-spec : {M : Type 1} → statement M
 send-check-spec =

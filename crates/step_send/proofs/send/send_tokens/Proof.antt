@@ -1,8 +1,12 @@
 -- `step_send::send::send_tokens` meets its contract: the message is appended, then the tokens are taken from the cell.
 use borrow.Author.Needs.{needs}
-use Rattle.step_send.proofs.SentTokens.{sent-in-cell, sent-is}
+use Rattle.step_send.proofs.SentTokens.{sent-in-cell, tokens-gone}
 use Rattle.step_send.proofs.send.send_tokens.Statement.{statement}
 use Rattle.step_send.proofs.send.send_tokens.Tie as tie
+
+-- The bytes are found by search wherever the calls stand, and before what the calls ask for, so that a call too few is refused at the bytes.
+returns : tie.Need-returns
+returns c = search tokens-gone
 
 token-state-requires : tie.Need-token-state-requires
 token-state-requires c κs = search needs
@@ -23,15 +27,6 @@ set-token-state-requires c κs =
 
 same-length : tie.Need-same-length
 same-length c = search needs
-
-returns : tie.Need-returns
-returns c =
-    let appended = c .before .before .before .before .before .before .before in
-    let told = appended .before .before in
-    let s = told .before .before .before in
-    sent-is (s .args .rec .now) (λ k. told .before .before .slice-known .given k .fits) (s .args .component) (s .args .block) (s .args .plain) (s .pre)
-    (s .args .target) (s .fits .target .fits) (s .args .owner) (s .args .«data») (appended .append-message .last .0) (appended .append-message .ensures)
-    (told .token-state .result) (c .before .before .before .before .without-tokens .result) (told .token-state .ensures) (c .before .before .before .before .without-tokens .ensures) (c .before .before .set-token-state .last .0) (c .before .before .set-token-state .ensures)
 
 pub send-tokens-spec : {M : Type 1} → statement M
 send-tokens-spec =
