@@ -14,6 +14,13 @@ store-check-requires c κs = search needs
 is-pass-requires : tie.Need-is-pass-requires
 is-pass-requires c κs = search needs
 
+-- The reply and the bytes stand before what the write asks for, so that a store at another place is refused there first.
+returns : tie.Need-returns
+unfolding answer after
+returns c =
+    let way = c .before .before .before .before in
+    made _ _ refl _ (passes _ _ _ (way .before .before .store-check .ensures) (way .before .is-pass .ensures) (way .if1 .taken)) (c .before .before .set-word .ensures)
+
 set-word-requires : tie.Need-set-word-requires
 set-word-requires c κs =
     let k = c .before .before .before in
@@ -25,12 +32,6 @@ set-word-requires c κs =
 
 same-length : tie.Need-same-length
 same-length c = search needs
-
-returns : tie.Need-returns
-unfolding answer after
-returns c =
-    let way = c .before .before .before .before in
-    made _ _ refl _ (passes _ _ _ (way .before .before .store-check .ensures) (way .before .is-pass .ensures) (way .if1 .taken)) (c .before .before .set-word .ensures)
 
 reply-of-requires : tie.Need-reply-of-requires
 reply-of-requires c κs = search needs
