@@ -23,13 +23,6 @@ use spec_rack::VALID_OFFSET;
 use spec_rack::WORDS_OFFSET;
 use spec_rack::WORDS_SIZE;
 
-// The offset of a block.
-pub fn block_offset(block: u8) -> usize
-    ensures { λ r. ⌜ r ≡ blockOffset block ⌝ }
-{
-    BLOCKS_OFFSET + BLOCK_SIZE * (block as usize)
-}
-
 // The offset of a component's plain count in a block.
 pub fn plain_offset(block: u8, component: u8) -> usize
     ensures { λ r. ⌜ r ≡ blockOffset block + component ⌝ }

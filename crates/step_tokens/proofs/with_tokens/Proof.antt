@@ -4,6 +4,10 @@ use borrow.Author.Needs.{needs}
 use Rattle.step_tokens.proofs.with_tokens.Statement.{statement}
 use Rattle.step_tokens.proofs.with_tokens.Tie as tie
 
+-- The state is found by search and before what the calls ask for, so that a figure left out is refused there first.
+returns : tie.Need-returns
+returns c = λ x m told e. search more-is
+
 joined-owner-requires : tie.Need-joined-owner-requires
 joined-owner-requires c κs = search needs
 
@@ -18,14 +22,6 @@ either-requires c κs = search needs
 
 either-requires-2 : tie.Need-either-requires-2
 either-requires-2 c κs = search needs
-
-returns : tie.Need-returns
-returns c = let s = c .before .before .before .before .before .before in
-    let a = s .args in
-    let owner = c .before .before .before .before .before .joined-owner in
-    let here = c .before .before .is-present in
-    λ x m told e. more-is (a .state) x told (a .header) m e (s .pre .1) (owner .result) (here .result) (c .before .either .result) (c .either2 .result)
-    (owner .ensures) (here .ensures) (c .before .either .ensures) (c .either2 .ensures)
 
 pub with-tokens-spec : {M : Type 1} → statement M
 with-tokens-spec =
