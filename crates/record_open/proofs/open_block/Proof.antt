@@ -11,6 +11,17 @@ use Rattle.record_open.proofs.open_block.Statement.{statement}
 use Rattle.record_open.proofs.open_block.Tie as tie
 use Rattle.spec_rack.specs.RecordLayout.{claimsOffset, claimsSize, ownerOffset, validOffset, wordsOffset, wordsSize}
 
+-- The bytes stand first, so that a part cleared too far is refused there.
+returns : tie.Need-returns
+returns c = let s = c .before .before .before .before .before .before .before .before .before .before .before .before .before in
+    let n = s .args .boards in
+    let p = s .args .at in
+    ap (λ (r : List ℕ). set (set (set r p (s .args .tokens - 1)) (p + ownerOffset) 1) (p + validOffset) 1)
+    (c .before .before .zero-fill3 .ensures
+    ∙ ap (modifyAt (p + wordsOffset) (wordsSize * (n + 1)) (λ r. replicate (wordsSize * (n + 1)) 0)) (c .before .before .before .before .before .before .zero-fill2 .ensures ∙ ap (modifyAt (p + claimsOffset) claimsSize (λ r. replicate claimsSize 0)) (c .before .before .before .before .before .before .before .before .before .before .zero-fill .ensures))
+    ∙ sym (empty-is n (omega (arith, s .pre .0)) p (s .args .rec .now) (s .pre .3)))
+    ∙ sym (fresh-is n (omega (arith, s .pre .0)) p (s .args .rec .now) (s .pre .3) (λ k. c .before .before .before .before .before .before .before .before .before .before .before .before .slice-known .given k .fits) (s .args .tokens) (omega (arith, s .pre .2)))
+
 add-words : tie.Need-add-words
 add-words c = search needs
 
@@ -56,16 +67,6 @@ slice-write-rec-3 c = simp length-set (omega (arith, c .before .before .zero-fil
 same-length : tie.Need-same-length
 same-length c =
     three-kept (c .before .before .zero-fill3 .last .0) _ _ _ _ _ _ ∙ c .before .before .zero-fill3 .kept .0 ∙ c .before .before .before .before .before .before .zero-fill2 .kept .0 ∙ c .before .before .before .before .before .before .before .before .before .before .zero-fill .kept .0
-
-returns : tie.Need-returns
-returns c = let s = c .before .before .before .before .before .before .before .before .before .before .before .before .before in
-    let n = s .args .boards in
-    let p = s .args .at in
-    ap (λ (r : List ℕ). set (set (set r p (s .args .tokens - 1)) (p + ownerOffset) 1) (p + validOffset) 1)
-    (c .before .before .zero-fill3 .ensures
-    ∙ ap (modifyAt (p + wordsOffset) (wordsSize * (n + 1)) (λ r. replicate (wordsSize * (n + 1)) 0)) (c .before .before .before .before .before .before .zero-fill2 .ensures ∙ ap (modifyAt (p + claimsOffset) claimsSize (λ r. replicate claimsSize 0)) (c .before .before .before .before .before .before .before .before .before .before .zero-fill .ensures))
-    ∙ sym (empty-is n (omega (arith, s .pre .0)) p (s .args .rec .now) (s .pre .3)))
-    ∙ sym (fresh-is n (omega (arith, s .pre .0)) p (s .args .rec .now) (s .pre .3) (λ k. c .before .before .before .before .before .before .before .before .before .before .before .before .slice-known .given k .fits) (s .args .tokens) (omega (arith, s .pre .2)))
 
 pub open-block-spec : {M : Type 1} → statement M
 open-block-spec =

@@ -13,6 +13,13 @@ Inv-loop rec₀ boards blocks tokens count b₀ rec b = (b ≤ blocks) × (rec �
 abbrev μ-loop : tie.MeasureT-loop
 μ-loop rec₀ boards blocks tokens count b₀ rec b = blocks - b
 
+-- The bytes stand first, so that a block too few is refused there.
+returns : tie.Need-returns Inv-loop μ-loop
+returns c =
+    let s = c .before .before .before in
+    let l = c .before .loop in
+    open-all (s .args .boards) (s .args .blocks) (s .args .tokens) (s .args .rec .now) (s .pre .0) (s .pre .4) (l .b) (l .rec) (l .inv .1) (omega arith)
+
 cast-rec : tie.Need-cast-rec Inv-loop μ-loop
 cast-rec c = omega arith
 
@@ -68,12 +75,6 @@ same-length c =
     let s = c .before .before .before in
     let l = c .before .loop in
     open-kept (s .args .boards) (s .args .blocks) (s .args .tokens) (s .args .rec .now) (s .pre .0) (s .pre .4) (l .b) (l .rec) (l .inv .1)
-
-returns : tie.Need-returns Inv-loop μ-loop
-returns c =
-    let s = c .before .before .before in
-    let l = c .before .loop in
-    open-all (s .args .boards) (s .args .blocks) (s .args .tokens) (s .args .rec .now) (s .pre .0) (s .pre .4) (l .b) (l .rec) (l .inv .1) (omega arith)
 
 pub write-fresh-spec : {M : Type 1} → statement M
 write-fresh-spec =
