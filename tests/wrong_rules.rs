@@ -351,7 +351,9 @@ impl Sources {
 
     /// Where a module of the joined crate has a law from: as before, and with a record the proofs of its fields.
     fn home_of(&self, module: &Module, name: &str) -> Option<Module> {
-        let has = |one: &&Statement| one.fields.iter().any(|field| one.split(field).1 == name) && self.imported(module, &one.proof).as_ref() == Some(&one.proved);
+        let has = |one: &&Statement| {
+            one.fields.iter().any(|field| one.split(field).1 == name) && self.imported(module, &one.proof).as_ref() == Some(&one.proved)
+        };
         self.imported(module, name).or(self.statements.iter().find(has).map(|one| one.proved.clone()))
     }
 
