@@ -259,7 +259,7 @@ board n s i = implies (member s i) (leb 1 i && leb i n)
 
 pub boards-lt : (n s : ℕ) → boardsOnly n s ≡ true → s < 2 ^ boardRoom
 unfolding boardsOnly
-boards-lt n s h = ltb-true s (2 ^ boardRoom) (and-l (ltb s (2 ^ boardRoom)) (allBelow boardRoom (board n s)) h)
+boards-lt n s h = ltb-true s (2 ^ boardRoom) (search and-l)
 
 pub boards-at : (n s : ℕ) → boardsOnly n s ≡ true → (i : ℕ) → member s i ≡ true → (1 ≤ i) × (i ≤ n)
 unfolding boardsOnly
