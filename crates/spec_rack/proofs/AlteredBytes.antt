@@ -13,5 +13,6 @@ unfolding meshLimit bit member allBelow sound soundClaims boardsOnly soundBarrin
 altered-bytes =
     record {
       unsound = refl;
+      short = refl;
       sound = refl;
     }

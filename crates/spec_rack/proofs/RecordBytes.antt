@@ -84,5 +84,5 @@ offsets =
       sets = refl;
       claims-size = refl;
       sizes = refl;
-      record-size = refl;
+      record-sizes = refl;
     }

@@ -5,7 +5,7 @@ use Prim.Native.Nat.{ℕ, _+_, _*_}
 use mathlib.Core.Path.{_≡_}
 use mathlib.Core.Bool.{Bool, true, false}
 use mathlib.Core.List.{List, [], _∷_, _++_, map}
-use lib.ListN.{length, getD, set, replicate}
+use lib.ListN.{length, getD, set, take, replicate}
 use Rattle.spec_base.specs.Folds.{toℕ}
 use Rattle.spec_base.specs.Layout.{slice, big}
 use Rattle.spec_wire.specs.declared.Step.the-variants.{Store, Send, Deliver, Raise, Lower}
@@ -129,7 +129,9 @@ pub record AlteredBytes : Type 0 where
       map (λ p. soundBytes (altered smallRecord (p ∷ [])))
       ((block + 50, 1) ∷ (block + 3, 1) ∷ (block + 51, 1) ∷ (32 + 6, 1) ∷ (32 + 7, 1) ∷ (block + 81, 1) ∷ (block + 87, 1) ∷ (block + 33, 2) ∷ [])
       ≡ replicate 8 false
-  -- and bytes of room, which do not: in the header, behind the count of messages, behind the lanes and the sets; a word above N
+  -- so does a byte that is lacking
+  pub short : soundBytes (take 3223 smallRecord) ≡ false
+  -- bytes of room do not: in the header, behind the count of messages, behind the lanes and the sets; a word above N
   pub sound : soundBytes (altered smallRecord ((4, 0x55) ∷ (72, 0x55) ∷ (block + 64, 0x55) ∷ (block + 114, 0x55) ∷ (block + 120 + 3 * 32, 0x55) ∷ [])) ≡ true
 
 -- ---- the offsets and sizes of RecordLayout.antt, those too that its layouts do not use: each is where the layout has that figure
@@ -160,4 +162,4 @@ pub record Offsets : Type 0 where
   pub claims-size : layout.claims 15 .size ≡ layout.claimsSize
   -- sizes, and the longest record
   pub sizes : layout.message .size ∷ layout.words .size ∷ layout.block 15 .size ∷ layout.header .size ∷ [] ≡ layout.messageSize ∷ layout.wordsSize ∷ layout.blockSize ∷ layout.headerSize ∷ []
-  pub record-size : layout.rackLayout 15 3 4 .size ≡ layout.recordLength 3
+  pub record-sizes : layout.rackLayout 15 3 4 .size ∷ layout.rackLayout 15 32 64 .size ∷ [] ≡ layout.recordLength 3 ∷ layout.longestRecord ∷ []
