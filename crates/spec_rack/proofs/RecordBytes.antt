@@ -9,12 +9,12 @@ use Rattle.spec_base.specs.Number.{Bytes}
 use Rattle.spec_base.specs.Folds.{allBelow}
 use Rattle.spec_base.specs.Layout.{overwrite}
 use Rattle.spec_wire.specs.Refusals.{when_refuse_else_}
-use Rattle.spec_arbiter.specs.Boards.{bit, member, insert, remove, subset, boardsOnly, firstFrom, lowest}
+use Rattle.spec_arbiter.specs.Boards.{bit, member, insert, remove, subset, boardsOnly}
 use Rattle.spec_arbiter.specs.Claims.{raiseCheck, raised, lowerCheck, lowered, soundBarring, soundClaims}
 use Rattle.spec_rack.specs.Rack.{Rack, meshLimit}
 use Rattle.spec_rack.specs.RecordLayout.{recordLength, barringSets, claims, words, messageHeader, message, byteLanes, tokenLanes, block, header, rackLayout, get, put}
 use Rattle.spec_rack.specs.Soundness.{sound, soundBytes}
-use Rattle.spec_rack.specs.Rules.{check, after, answer, rules, stored, sent, delivered, forwarded}
+use Rattle.spec_rack.specs.Rules.{check, after, answer, rules, stored, sent, delivered}
 use Rattle.spec_rack.specs.Lists.{runAll}
 use Rattle.spec_rack.specs.RecordTrips.{wordsFit}
 use Rattle.spec_rack.specs.RecordBytes.{room, small, smallRecord, large, largeRecord, RecordBytes, Offsets}

@@ -24,6 +24,7 @@ use Rattle.spec_rack.specs.Examples.{code}
 abbrev pub eight : ℕ → List ℕ
 eight w = w ∷ (w + 1) ∷ (w + 2) ∷ (w + 3) ∷ (w + 4) ∷ (w + 5) ∷ (w + 6) ∷ (w + 7) ∷ []
 
+-- plain tokens, owner, valid, words
 abbrev pub cell : ℕ → Owner → Bool → List ℕ → Cell
 cell p o v ws = record { plain = p; owner = o; valid = v; words = ws }
 
@@ -35,7 +36,7 @@ stale w = cell 0 Away false (eight w)
 abbrev pub block : Cell → Cell → Cell → Cell → Cell → Claims → Block
 block home one two three four sets = record { cells = home ∷ one ∷ two ∷ three ∷ four ∷ []; claims = sets }
 
--- from c to t, of block b
+-- from c to t, of block b: plain tokens, owner, data, words
 abbrev pub mail : ℕ → ℕ → ℕ → ℕ → Owner → Bool → List ℕ → Message
 mail c t b p o d ws = record { header = record { sender = c; target = t; block = b; plain = p; owner = o; «data» = d }; words = ws }
 
@@ -90,7 +91,7 @@ sets2 = 26 ∷ 0 ∷ 18 ∷ 0 ∷ 0 ∷ []
 abbrev pub block2 : Block
 block2 = block cell20 cell21 (stale 0xC20) cell23 (stale 0xC40) sets2
 
--- in flight: of block 2, data to a board that waits, no data to one that is barred, and the owner, clean and bare, to home, all of whom are not valid; of
+-- in flight: of block 2, data to a board that waits, no data to one that is barred, and the owner, clean and bare, to home, none of whom is valid; of
 -- block 0, data and no data to those who are valid
 abbrev pub mail0 : Message
 mail0 = mail 3 1 2 13 Away true (eight 0xD00)
@@ -113,15 +114,17 @@ mesh = mail0 ∷ mail1 ∷ mail2 ∷ mail3 ∷ mail4 ∷ []
 abbrev pub diverse : Rack
 diverse = rack block0 block1 block2 mesh
 
--- refused, each with the number that stands at its place in `refusals`
-abbrev pub refusedSteps : List Step
-refusedSteps =
-    Load 3 0 5 ∷ Load 2 0 5 ∷ Load 5 0 5 ∷ Store 0 0 5 99 ∷ Store 1 0 5 99 ∷ Send 1 0 1 1 false true ∷ Send 3 2 1 9 false true ∷ Send 1 0 3 0 false true
-    ∷ Send 1 0 3 7 false true ∷ Send 4 0 3 1 true true ∷ Send 1 0 0 6 true false ∷ Send 2 0 3 8 false true ∷ Deliver 5 ∷ Raise 0 1 ∷ Raise 4 2 ∷ Raise 2 2
-    ∷ Lower 0 2 ∷ Lower 2 2 ∷ Forward 1 0 ∷ Forward 1 2 ∷ Forward 4 2 ∷ []
-
-abbrev pub refusals : List ℕ
-refusals = 5 ∷ 6 ∷ 3 ∷ 4 ∷ 7 ∷ 8 ∷ 9 ∷ 10 ∷ 11 ∷ 11 ∷ 12 ∷ 6 ∷ 14 ∷ 4 ∷ 15 ∷ 16 ∷ 4 ∷ 17 ∷ 18 ∷ 8 ∷ 5 ∷ []
+-- steps that are refused, each with the refusal's number
+abbrev pub refusals : List (Step × ℕ)
+refusals =
+    (Load 3 0 5, 5) ∷ (Load 2 0 5, 6) ∷ (Load 5 0 5, 3)
+    ∷ (Store 0 0 5 99, 4) ∷ (Store 1 0 5 99, 7)
+    ∷ (Send 1 0 1 1 false true, 8) ∷ (Send 3 2 1 9 false true, 9) ∷ (Send 1 0 3 0 false true, 10) ∷ (Send 1 0 3 7 false true, 11)
+    ∷ (Send 4 0 3 1 true true, 11) ∷ (Send 1 0 0 6 true false, 12) ∷ (Send 2 0 3 8 false true, 6)
+    ∷ (Deliver 5, 14)
+    ∷ (Raise 0 1, 4) ∷ (Raise 4 2, 15) ∷ (Raise 2 2, 16)
+    ∷ (Lower 0 2, 4) ∷ (Lower 2 2, 17)
+    ∷ (Forward 1 0, 18) ∷ (Forward 1 2, 8) ∷ (Forward 4 2, 5) ∷ []
 
 pub record AfterEachStep : Type 0 where
   pub is-sound : sound diverse ≡ true
@@ -196,5 +199,5 @@ pub record AfterEachStep : Type 0 where
       (rack block0 block1 (block (stale 0xC00) cell21 (stale 0xC20) cell23 (stale 0xC40) sets2)
         (mail0 ∷ mail1 ∷ mail2 ∷ mail3 ∷ mail4 ∷ mail 0 1 2 3 Away false zeros ∷ []))
   -- a refusal gives only its number and changes nothing
-  pub refused : map (λ s. code (reply (rules diverse s))) refusedSteps ≡ refusals
-  pub unchanged : run diverse refusedSteps ≡ diverse
+  pub refused : map (λ p. code (reply (rules diverse (p .0)))) refusals ≡ map (λ p. p .1) refusals
+  pub unchanged : run diverse (map (λ p. p .0) refusals) ≡ diverse
