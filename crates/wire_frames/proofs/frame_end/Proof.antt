@@ -4,14 +4,14 @@ use borrow.Author.Needs.{needs}
 use Rattle.wire_frames.proofs.frame_end.Statement.{statement}
 use Rattle.wire_frames.proofs.frame_end.Tie as tie
 
-frame-end-within-requires : tie.Need-frame-end-within-requires
-frame-end-within-requires c κs = search needs
-
 returns : tie.Need-returns
 returns c = search needs
 
 returns-2 : tie.Need-returns-2
 returns-2 c = cut-past (c .before .before .args .list .now) (c .before .before .args .at) (c .if1 .left)
+
+frame-end-within-requires : tie.Need-frame-end-within-requires
+frame-end-within-requires c κs = search needs
 
 pub frame-end-spec : {M : Type 1} → statement M
 frame-end-spec = tie.close (tie.spec frame-end-within-requires returns returns-2)
