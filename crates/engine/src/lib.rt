@@ -37,7 +37,7 @@ pub extern "C" fn hyl_step(rec: &mut [u8], step: &[u8]) -> u64
     step::step_result(rec, sound, step)
 }
 
-// Gives the records of a list from `at` on; `at` becomes where the next run starts.
+// Gives the step records of a list from `at` on; `at` becomes where the next run starts.
 #[no_mangle]
 pub extern "C" fn hyl_run(rec: &mut [u8], list: &[u8], at: &mut usize, replies: &mut [u64]) -> usize
     ensures { λ r. ⌜ RunResult (now (rec .entry)) (now (list .entry)) (now (at .entry)) (now (replies .entry)) r (now (rec .exit)) (now (at .exit)) (now (replies .exit)) ⌝ }

@@ -16,7 +16,7 @@ use spec_rack::LONGEST_RECORD;
 use spec_rack::Reply;
 use spec_wire::Refusal;
 
-// Gives the records of a list to the record, and places the steps' lines.
+// Gives the step records of a list to the record, and places the steps' lines.
 fn put_steps(rec: &mut [u8], list: &[u8], out: &mut [u8], at: usize) -> usize
     requires { ⌜ (length (now list) ≤ 65536) × (at + 16 * ((length (now list) + 2) / 3) ≤ length (now out)) ⌝ }
     ensures text { λ r. ⌜ (r ≡ at + length (lines 1 (replies (now (rec .entry)) (frames 65536 (now (list .entry)))))) × (now (out .exit) ≡ place at (lines 1 (replies (now (rec .entry)) (frames 65536 (now (list .entry))))) (now (out .entry))) ⌝ }

@@ -5,7 +5,7 @@ ghost use lib.ListN.{length, drop};
 ghost use Rattle.spec_wire.specs.Frames.{frameSize};
 use base::numbers::u16_at;
 
-// The end of the record that starts at `at`, which is below the end of the list.
+// The end of the step record that starts at `at`, which is below the end of the list.
 pub fn frame_end_within(list: &[u8], at: usize) -> usize
     requires { ⌜ at < length (now list) ⌝ }
     ensures { λ r. ⌜ (r ≡ at + frameSize (drop at (now (list .entry)))) × (at < r) × (r ≤ length (now (list .entry))) ⌝ }

@@ -42,7 +42,7 @@ fn reading_of(parsed: Parsed) -> Reading
     }
 }
 
-// The bytes as a record: what they read as, still in parts.
+// The bytes as a step record: what they read as, still in parts.
 pub fn parse(bytes: &[u8]) -> Parsed
     ensures { λ r. ⌜ readingOf r ≡ readRecord (now (bytes .entry)) ⌝ }
 {
@@ -55,7 +55,7 @@ pub fn parse(bytes: &[u8]) -> Parsed
     read_body(bytes[0], &bytes[3..])
 }
 
-// The step that the bytes are the record of.
+// The step that the bytes are the step record of.
 pub fn read(bytes: &[u8]) -> Reading
     ensures { λ r. ⌜ r ≡ readRecord (now (bytes .entry)) ⌝ }
 {
