@@ -64,6 +64,12 @@ returns-3 c =
     let s = c .before .before .before .before .before .before .before .before in
     letter-home (s .args .rec .now) (s .args .component) (s .args .block) (sure (c .before .before .before .before .before)) (on (c .before)) (c .if3 .taken)
 
+-- The letter stands before what its reading asks for, so that a letter read at another place is refused there first.
+returns-4 : tie.Need-returns-4
+returns-4 c =
+    let s = c .before .before .before .before .before .before .before .before .before in
+    letter-read (s .args .rec .now) (s .args .component) (s .args .block) (sure (c .before .before .before .before .before .before)) (on (c .before .before)) (fine (c .before .before .before .before .before .before) .wellFormed .bytes) (c .letter-at .result) (c .before .if3 .left) (c .letter-at .ensures)
+
 mul-at : tie.Need-mul-at
 mul-at c = search needs
 
@@ -82,11 +88,6 @@ letter-at-requires c κs =
       letter-mark (s .args .rec .now) (s .args .component) (s .args .block) (sure (c .before .before .before .before .before)) (on (c .before)) (sized .wellFormed .bytes),
       letter-dirty (s .args .rec .now) (s .args .component) (s .args .block) (sure (c .before .before .before .before .before)) (on (c .before)) (sized .wellFormed .bytes),
     )
-
-returns-4 : tie.Need-returns-4
-returns-4 c =
-    let s = c .before .before .before .before .before .before .before .before .before in
-    letter-read (s .args .rec .now) (s .args .component) (s .args .block) (sure (c .before .before .before .before .before .before)) (on (c .before .before)) (fine (c .before .before .before .before .before .before) .wellFormed .bytes) (c .letter-at .result) (c .before .if3 .left) (c .letter-at .ensures)
 
 pub letter-spec : {M : Type 1} → statement M
 letter-spec =
