@@ -875,8 +875,8 @@ No edit of the rules refuses these: {} theorems and {} computed examples.
 
 The proofs of single writer and multiple readers, data value and token conservation use one invariant, which a step keeps as a whole
 (`spec_rack/proofs/StepPreservation.step-keeps`). So a wrong rule that breaks any part of it takes the proof of all three, and no cell below says that an
-invariant is false. What tells the wrong rules apart are the laws that are refused at their own proof: `SoundCell` and the sums of `held` are about tokens,
-`has` about words, `reader` and `writer` about who may load and store.
+invariant is false. What tells the wrong rules apart are the laws that are refused at their own proof: `held-less` and `held-more` count tokens, `more-has`
+and `more-words` are about words, `reader` and `writer` about who may load and store.
 
 | edit | single writer, multiple readers | data value | token conservation | theorems and laws refused at their own proof |
 |---|---|---|---|---|
