@@ -1,14 +1,23 @@
 -- `step_send::send::send_check` meets its contract: on the rack its lines are the table's.
+use mathlib.Core.Path.{refl}
 use borrow.Author.Needs.{needs}
+use Rattle.spec_wire.specs.declared.Refusal.the-variants.{OffRack, SelfSend, Claimed}
+use Rattle.spec_rack.specs.Rules.{check}
 use Rattle.step_checks.proofs.CheckLaws.{send-off-rack}
 use Rattle.step_checks.proofs.RackBounds.{block-on, in-cell}
-use Rattle.step_send.proofs.SendTable.{send-lines}
+use Rattle.step_send.proofs.SendTable.{line-is, target-is, claimed-is, tokens-are}
 use Rattle.step_send.proofs.send.send_check.Statement.{statement}
 use Rattle.step_send.proofs.send.send_check.Tie as tie
 
--- The verdict is found by search among the lines, and before what the calls ask for, so that a line that asks more or less is refused at the verdict.
+-- The verdict stands before what the calls ask for, and each test is found by search, so that a line that asks more or less is refused at its test. The
+-- test for off rack is the first call: a search that starts near it finds it.
 returns-2 : tie.Need-returns-2
-returns-2 c = search send-lines
+unfolding check
+returns-2 c =
+    let apart = c .before .before in
+    line-is OffRack (c .line3 .ensures) (let early = apart .before .before .before .before .before .before in search target-is)
+    (line-is SelfSend (apart .line2 .ensures) refl
+    (line-is Claimed (apart .before .line .ensures) (search claimed-is) (search tokens-are)))
 
 off-rack-requires : tie.Need-off-rack-requires
 off-rack-requires c κs = search needs
