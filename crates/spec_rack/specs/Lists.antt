@@ -108,14 +108,14 @@ answers s bs = answersOf stepAfter stepReply s bs
 abbrev pub accesses : List ℕ → List (List ℕ) → List Access
 accesses s bs = accessesOf stepAfter stepReply (λ b. accessIn (readRecord b)) s bs
 
--- ---- a list of records in one slice
+-- ---- a list of step records in one slice
 
--- the records from a place of the list on, as many as there are places for replies
+-- the step records from a place of the list on, as many as there are places for replies
 abbrev pub framesFrom : List ℕ → ℕ → List ℕ → List (List ℕ)
 framesFrom list at out = frames (length out) (drop at list)
 
--- What a run leaves: each record given singly, in order; a packed reply for each at the front of the lent replies, the rest as they were;
--- the count of steps; and the place behind the last record, from which the next run goes on.
+-- What a run leaves: each step record given singly, in order; a packed reply for each at the front of the lent replies, the rest as they were;
+-- the count of steps; and the place behind the last step record, from which the next run goes on.
 pub record RunResult (rec list : List ℕ) (at : ℕ) (out : List ℕ) (made : ℕ) (rec′ : List ℕ) (at′ : ℕ) (out′ : List ℕ) : Type 0 where
   pub count : made ≡ length (framesFrom list at out)
   pub buffer : rec′ ≡ after rec (framesFrom list at out)

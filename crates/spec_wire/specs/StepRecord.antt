@@ -1,4 +1,4 @@
--- Document 01, "Step records": the bytes of a record.
+-- Document 01, "Step records": the bytes of a step record.
 use Prim.Native.Nat.{ℕ, _+_}
 use mathlib.Core.List.{List, [], _∷_, _++_}
 use lib.ListN.{length}
@@ -16,11 +16,11 @@ abbrev pub bodyBytes : List Field → List ℕ → List ℕ
 bodyBytes [] p = []
 bodyBytes (f ∷ fs) p = fieldBytes f (valueOf f p) ++ bodyBytes fs p
 
--- a record: its kind byte, a two-byte length, its body
+-- a step record: its kind byte, a two-byte length, its body
 unfoldable pub recordBytes : ℕ → List ℕ → List ℕ
 recordBytes kind body = kind ∷ (digits 2 (length body) ++ body)
 
--- the record of a step
+-- the step record of a step
 unfoldable pub stepBytes : Step → List ℕ
 stepBytes s = recordBytes (kindIn (fieldArray s)) (bodyBytes (kindOf (kindIn (fieldArray s)) .fields) (fieldArray s))
 
