@@ -772,7 +772,8 @@ Made by `tests/wrong_rules.sh`, which is not in the gate; a run replaces this fi
 Over each wrong rule it checks these six crates and lists all that is then refused, of {theorems} theorems (each field of a record of theorems is one) and
 {computed} computed examples.
 
-- A computed example that is refused is false for certain: its proof is `refl`, and its two sides compute to different values.
+- A computed example that is refused is false for certain: its proof is `refl`, and its two sides compute to different values. Where the edit brings in a
+  definition that the proof does not unfold, so that they may only not compute, the cell says so.
 - A theorem that is refused has lost its proof. That does not show that it is false; it may in principle have another proof.
 - *At its own proof*: the prover finds the fault there. *By a law below*: its proof uses a law that is refused, the one that is named, and the prover looks no
   further.

@@ -3,7 +3,7 @@ use borrow.Author.Tests.{eqb-false}
 use Rattle.spec_arbiter.specs.Boards.{boardRoom}
 use Rattle.spec_arbiter.specs.Claims.{waiting}
 use Rattle.spec_arbiter.specs.SetLaws.{SetLaws, ActiveIsLowest}
-use Rattle.spec_arbiter.proofs.Boards.{same-members, member-lt, member-empty, insert-same, insert-other, remove-same, remove-other, insert-lt, remove-lt, subset-at, subset-of, boards-lt, boards-at, lowest-member, lowest-least, lowest-lt}
+use Rattle.spec_arbiter.proofs.Boards.{same-members, member-lt, member-empty, insert-same, insert-other, remove-same, remove-other, insert-lt, remove-lt, subset-at, subset-of, boards-lt, boards-at, boards-of, lowest-member, lowest-least, lowest-empty, lowest-lt}
 use Rattle.spec_arbiter.proofs.Claims.{claims-facts, active-known}
 
 pub set-laws : SetLaws
@@ -21,9 +21,11 @@ set-laws =
       subset-at = subset-at;
       subset-of = subset-of;
       boards-at = boards-at;
+      boards-of = boards-of;
       lowest-member = lowest-member;
       lowest-least = lowest-least;
       lowest-there = lowest-lt;
+      lowest-empty = lowest-empty;
     }
 
 pub active-is-lowest : ActiveIsLowest

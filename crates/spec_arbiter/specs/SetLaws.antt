@@ -23,10 +23,12 @@ pub record SetLaws : Type 0 where
   pub subset-at : (a b : ℕ) → subset a b ≡ true → (i : ℕ) → i < boardRoom → member a i ≡ true → member b i ≡ true
   pub subset-of : (a b : ℕ) → ((i : ℕ) → i < boardRoom → member a i ≡ true → member b i ≡ true) → subset a b ≡ true
   pub boards-at : (n s : ℕ) → boardsOnly n s ≡ true → (i : ℕ) → member s i ≡ true → (1 ≤ i) × (i ≤ n)
+  pub boards-of : (n s : ℕ) → s < 2 ^ boardRoom → ((i : ℕ) → member s i ≡ true → (1 ≤ i) × (i ≤ n)) → boardsOnly n s ≡ true
   -- the lowest member is one, none below it is; where there is none it is 16
   pub lowest-member : (s : ℕ) → lowest s < boardRoom → member s (lowest s) ≡ true
   pub lowest-least : (s j : ℕ) → j < lowest s → member s j ≡ false
   pub lowest-there : (s : ℕ) → s < 2 ^ boardRoom → (s ≡ empty → ⊥) → lowest s < boardRoom
+  pub lowest-empty : lowest empty ≡ boardRoom
 
 -- the active board of a claimed block: it waits, it is a board of the rack, and no board below it waits
 pub record LowestWaiting (n : ℕ) (c : Claims) : Type 0 where

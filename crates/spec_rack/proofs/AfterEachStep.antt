@@ -31,6 +31,12 @@ after-each-step =
       lower-valid = refl;
       forward = refl;
       forward-no-data = refl;
+      store-active = refl;
+      send-home = refl;
+      send-bare = refl;
+      raise-not-valid = refl;
+      lower-not-valid = refl;
+      forward-owner = refl;
       refused = refl;
       unchanged = refl;
     }

@@ -1,5 +1,6 @@
--- Document 01, "Steps", with document 02, Nos. 1, 2 and 7: a rack in which everything differs from everything, and the answer and the whole rack after a step
--- of each kind. A step changes what its sentence names and nothing else: no other component, block, set or message, and no words that nobody can read.
+-- Document 01, "Steps", with document 02, Nos. 1, 2 and 7: a rack in which all cells and messages differ and two blocks have claims, and the answer and the
+-- whole rack after a step of each kind. A step changes what its sentence names and nothing else: no other component, block, set or message, nor words that
+-- nobody can read.
 -- Each equation is computed.
 use Prim.Native.Nat.{ℕ, _+_}
 use mathlib.Core.Path.{_≡_}
@@ -136,20 +137,20 @@ pub record AfterEachStep : Type 0 where
       rules diverse (Store 2 1 5 99)
       ≡ accepted Done
       (rack block0
-        (block (stale 0xB00) (stale 0xB10) (cell 59 Dirty true (0xB20 ∷ 0xB21 ∷ 0xB22 ∷ 0xB23 ∷ 0xB24 ∷ 99 ∷ 0xB26 ∷ 0xB27 ∷ [])) (stale 0xB30) (stale 0xB40) sets1)
-        block2 mesh)
+      (block (stale 0xB00) (stale 0xB10) (cell 59 Dirty true (0xB20 ∷ 0xB21 ∷ 0xB22 ∷ 0xB23 ∷ 0xB24 ∷ 99 ∷ 0xB26 ∷ 0xB27 ∷ [])) (stale 0xB30) (stale 0xB40) sets1)
+      block2 mesh)
   -- send: takes those tokens and appends the message, with the words if data is yes; the component's words stay
   pub send :
       rules diverse (Send 1 0 3 5 true true)
       ≡ accepted Done
       (rack (block cell00 (cell 1 Away true (eight 0xA10)) cell02 (stale 0xA30) cell04 sets0) block1 block2
-        (mail0 ∷ mail1 ∷ mail2 ∷ mail3 ∷ mail4 ∷ mail 1 3 0 5 Dirty true (eight 0xA10) ∷ []))
+      (mail0 ∷ mail1 ∷ mail2 ∷ mail3 ∷ mail4 ∷ mail 1 3 0 5 Dirty true (eight 0xA10) ∷ []))
   -- if nothing is held afterwards, valid becomes no
   pub send-all :
       rules diverse (Send 4 0 1 2 false false)
       ≡ accepted Done
       (rack (block cell00 cell01 cell02 (stale 0xA30) (stale 0xA40) sets0) block1 block2
-        (mail0 ∷ mail1 ∷ mail2 ∷ mail3 ∷ mail4 ∷ mail 4 1 0 2 Away false zeros ∷ []))
+      (mail0 ∷ mail1 ∷ mail2 ∷ mail3 ∷ mail4 ∷ mail 4 1 0 2 Away false zeros ∷ []))
   -- deliver: removes that message, the rest keeping their order, and adds its tokens to the target; with data, the target's words become the message's and
   -- valid becomes yes
   pub deliver-data :
@@ -192,12 +193,43 @@ pub record AfterEachStep : Type 0 where
       rules diverse (Forward 3 2)
       ≡ accepted Done
       (rack block0 block1 (block cell20 cell21 (stale 0xC20) (stale 0xC30) (stale 0xC40) sets2)
-        (mail0 ∷ mail1 ∷ mail2 ∷ mail3 ∷ mail4 ∷ mail 3 1 2 9 Away true (eight 0xC30) ∷ []))
+      (mail0 ∷ mail1 ∷ mail2 ∷ mail3 ∷ mail4 ∷ mail 3 1 2 9 Away true (eight 0xC30) ∷ []))
   pub forward-no-data :
       rules diverse (Forward 0 2)
       ≡ accepted Done
       (rack block0 block1 (block (stale 0xC00) cell21 (stale 0xC20) cell23 (stale 0xC40) sets2)
-        (mail0 ∷ mail1 ∷ mail2 ∷ mail3 ∷ mail4 ∷ mail 0 1 2 3 Away false zeros ∷ []))
+      (mail0 ∷ mail1 ∷ mail2 ∷ mail3 ∷ mail4 ∷ mail 0 1 2 3 Away false zeros ∷ []))
+  -- the active board stores: it waits on, and is still the active board
+  pub store-active :
+      rules (run diverse (Raise 2 1 ∷ [])) (Store 2 1 5 99)
+      ≡ accepted Done
+      (rack block0
+      (block (stale 0xB00) (stale 0xB10) (cell 59 Dirty true (0xB20 ∷ 0xB21 ∷ 0xB22 ∷ 0xB23 ∷ 0xB24 ∷ 99 ∷ 0xB26 ∷ 0xB27 ∷ [])) (stale 0xB30) (stale 0xB40)
+      (20 ∷ 0 ∷ 0 ∷ 16 ∷ 0 ∷ []))
+      block2 mesh)
+  -- all goes home, with data and bare: the words of the sender stay
+  pub send-home :
+      rules diverse (Send 1 0 0 6 true true)
+      ≡ accepted Done
+      (rack (block cell00 (stale 0xA10) cell02 (stale 0xA30) cell04 sets0) block1 block2
+      (mail0 ∷ mail1 ∷ mail2 ∷ mail3 ∷ mail4 ∷ mail 1 0 0 6 Dirty true (eight 0xA10) ∷ []))
+  pub send-bare :
+      rules (run diverse (Lower 4 1 ∷ [])) (Send 2 1 0 59 true false)
+      ≡ accepted Done
+      (rack block0 (block (stale 0xB00) (stale 0xB10) (stale 0xB20) (stale 0xB30) (stale 0xB40) sets0) block2
+      (mail0 ∷ mail1 ∷ mail2 ∷ mail3 ∷ mail4 ∷ mail 2 0 1 59 Clean false zeros ∷ []))
+  -- a board that holds tokens and is not valid raises and lowers
+  pub raise-not-valid :
+      rules diverse (Raise 2 0) ≡ accepted Done (rack (block cell00 cell01 cell02 (stale 0xA30) cell04 (4 ∷ 0 ∷ 0 ∷ 0 ∷ 0 ∷ [])) block1 block2 mesh)
+  pub lower-not-valid :
+      rules diverse (Lower 1 2)
+      ≡ accepted Done (rack block0 block1 (block cell20 cell21 (stale 0xC20) cell23 (stale 0xC40) (24 ∷ 24 ∷ 16 ∷ 0 ∷ 0 ∷ [])) mesh)
+  -- forward with the owner: all goes, the words of the sender stay
+  pub forward-owner :
+      rules diverse (Forward 2 1)
+      ≡ accepted Done
+      (rack block0 (block (stale 0xB00) (stale 0xB10) (stale 0xB20) (stale 0xB30) (stale 0xB40) sets1) block2
+      (mail0 ∷ mail1 ∷ mail2 ∷ mail3 ∷ mail4 ∷ mail 2 4 1 59 Clean true (eight 0xB20) ∷ []))
   -- a refusal gives only its number and changes nothing
   pub refused : map (λ p. code (reply (rules diverse (p .0)))) refusals ≡ map (λ p. p .1) refusals
   pub unchanged : run diverse (map (λ p. p .0) refusals) ≡ diverse

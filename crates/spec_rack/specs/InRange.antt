@@ -1,5 +1,5 @@
 -- Document 01, "Refusal table", 3 and 14: what an accepted step reads and writes of a sound rack is there. So what Rack.antt has for places past the ends of
--- its lists never counts. Proved, so it adds nothing to believe.
+-- its lists never counts in an accepted step. Proved, so it adds nothing to believe.
 use Prim.Native.Nat.{ℕ, _<_}
 use mathlib.Core.Path.{_≡_}
 use mathlib.Core.Bool.{true}

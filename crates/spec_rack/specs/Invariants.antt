@@ -1,5 +1,6 @@
--- The three invariants by which the field knows a coherent memory, of every list from every opening: single writer and multiple readers, data value, token
--- conservation. Demand 3 (Coherence.antt) is about what loads give; these are about the rack that a list leaves.
+-- Document 01, "The flat memory", in the field's words: its two invariants of a coherent memory, single writer and multiple readers and data value, and Token
+-- Coherence's own, token conservation, of every list from every opening. Demand 3 (Coherence.antt) is about what loads give; these are about the rack that a
+-- list leaves.
 use mathlib.Core.Path.{_≡_}
 use mathlib.Core.Bool.{true}
 use mathlib.Core.List.{List, []}
@@ -67,7 +68,7 @@ OfBytes Holds = (n b t : ℕ) (s : List ℕ) (steps : List (List ℕ)) → Bytes
 
 -- the store that would be accepted, and the loads and stores that would not, are given as bytes too
 abbrev pub SingleWriterMultipleReadersBytes : Type 0
-SingleWriterMultipleReadersBytes = OfBytes (λ n b t s steps. SingleWriter stepReply (λ bytes t. readRecord bytes ≡ Read t) get (after s steps))
+SingleWriterMultipleReadersBytes = OfBytes (λ n b t s steps. SingleWriter stepReply (λ bytes step. readRecord bytes ≡ Read step) get (after s steps))
 
 abbrev pub DataValueBytes : Type 0
 DataValueBytes = OfBytes (λ n b t s steps. Current (get (after s steps)) (memoryAfter (blank b) (accesses s steps)))

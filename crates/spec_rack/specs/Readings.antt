@@ -23,7 +23,7 @@ use Rattle.spec_rack.specs.declared.Letter.the-variants.{M, E, I}
 use Rattle.spec_rack.specs.declared.Lettered.the-variants as Lettered
 use Rattle.spec_rack.specs.Rack.{Cell, Rack, zeros, noCell, fresh, cellAt, claimsAt}
 use Rattle.spec_rack.specs.Soundness.{sound}
-use Rattle.spec_rack.specs.Rules.{check, rules, reply, replyOf}
+use Rattle.spec_rack.specs.Rules.{check, rules, reply, replyOf, withClaims}
 use Rattle.spec_rack.specs.Letter.{letter, letterReply}
 use Rattle.spec_rack.specs.FlatMemory.{load, store, blank, flat}
 use Rattle.spec_rack.specs.Lists.{run, rackAnswers, rackAccesses}
@@ -222,8 +222,6 @@ pub record Effects : Type 0 where
   pub send-some : cellAt (run stored (Send 1 0 2 0 true true ∷ [])) 0 1 ≡ cell 2 Away true 7
   -- raise and lower leave the words, also those that nobody can read
   pub claims-leave-words : map (λ ss. cellAt (run stored (Send 1 0 2 2 true true ∷ ss)) 0 1) ((Raise 1 0 ∷ []) ∷ (Raise 1 0 ∷ Lower 1 0 ∷ []) ∷ []) ≡ replicate 2 (cell 0 Away false 7)
-  -- a board that holds all T may raise
-  pub raise-with-all : met stored (Raise 1 0 ∷ []) ≡ 0 ∷ []
   -- a message with data has the words; one without has eight times 0
   pub send-data :
       run stored (Send 1 0 2 1 false true ∷ []) .mesh
@@ -343,6 +341,8 @@ pub record Soundness : Type 0 where
   pub no-data : soundWith (mail 0 1 0 1 Away false 0) ≡ true
   pub with-data : soundWith (mail 0 1 0 1 Away true 6) ≡ true
   pub words-without-data : soundWith (mail 0 1 0 1 Away false 6) ≡ false
+  pub last-word-without-data :
+      soundWith (record { header = record { sender = 0; target = 1; block = 0; plain = 1; owner = Away; «data» = false }; words = replicate 7 0 ++ 6 ∷ [] }) ≡ false
   -- a known sender
   pub sender-N : soundWith (mail 2 1 0 1 Away false 0) ≡ true
   pub sender-unknown : soundWith (mail 3 1 0 1 Away false 0) ≡ false
@@ -369,12 +369,15 @@ pub record Soundness : Type 0 where
   pub one-more : soundCells (cell 3 Clean true 0 ∷ noCell ∷ noCell ∷ []) ≡ false
   pub one-less : soundCells (cell 1 Clean true 0 ∷ noCell ∷ noCell ∷ []) ≡ false
   pub one-more-in-flight : sound (small all (noClaims 2) (mail 0 1 0 1 Away false 0 ∷ [])) ≡ false
+  -- of every block: one less of block 1
+  pub one-less-of-another : sound (crowded 62 []) ≡ false
   -- one owner
   pub two-owners : soundCells (cell 1 Clean true 0 ∷ cell 0 Clean true 0 ∷ noCell ∷ []) ≡ false
   pub no-owner : soundCells (cell 3 Away true 0 ∷ noCell ∷ noCell ∷ []) ≡ false
   pub two-owners-in-flight : sound (small home (noClaims 2) (mail 0 1 0 0 Clean true 0 ∷ [])) ≡ false
   -- valid only where a token is held
   pub valid-without-token : soundCells (cell 2 Clean true 0 ∷ cell 0 Away true 0 ∷ noCell ∷ []) ≡ false
+  pub home-valid-without-token : soundCells (cell 0 Away true 0 ∷ cell 2 Clean true 0 ∷ noCell ∷ []) ≡ false
   -- the owner's holder is valid
   pub owner-not-valid : soundCells (cell 2 Clean false 0 ∷ noCell ∷ noCell ∷ []) ≡ false
   pub dirty-not-valid : soundCells (noCell ∷ cell 2 Dirty false 0 ∷ noCell ∷ []) ≡ false
@@ -393,3 +396,5 @@ pub record Soundness : Type 0 where
   pub both-wait : soundSets (6 ∷ 0 ∷ 0 ∷ []) ≡ true
   pub waiting-is-barred : soundSets (6 ∷ 4 ∷ 0 ∷ []) ≡ false
   pub last-is-barred : soundSets (6 ∷ 0 ∷ 2 ∷ []) ≡ false
+  -- of every block: board 1 barred by a board that does not wait, in block 1
+  pub bars-outside-in-another : sound (withClaims (fresh 2 2 3) 1 (0 ∷ 4 ∷ 0 ∷ [])) ≡ false

@@ -14,6 +14,8 @@ use Rattle.spec_rack.specs.declared.Owner.the-variants.{Away, Dirty, Cle
 use Rattle.spec_rack.specs.Rack.{Rack, present, fresh}
 use Rattle.spec_rack.specs.Soundness.{soundBytes}
 use Rattle.spec_rack.specs.Lists.{run}
+use Rattle.spec_rack.specs.Opening.{openAfter}
+use Rattle.spec_rack.specs.Entries.{stepAfter}
 use Rattle.spec_rack.specs.RecordLayout.{get, put}
 use Rattle.spec_rack.specs.RecordLayout as layout
 
@@ -112,6 +114,23 @@ pub record RecordBytes : Type 0 where
   pub large-get : get largeRecord ≡ large
   pub large-sound : soundBytes largeRecord ≡ true
 
+-- ---- what an opening and a step leave of a whole buffer, six bytes behind the record among it: room, places of messages and words above N stay
+
+abbrev pub openedSmall : List ℕ
+openedSmall =
+    (2 ∷ 1 ∷ 3 ∷ 0 ∷ room 28) ++ room (64 * 40) ++ (2 ∷ none 15) ++ (1 ∷ none 15) ++ (1 ∷ none 15) ++ none 16 ++ room 16 ++ none 34 ++ room 6
+    ++ none (3 * 32) ++ room (13 * 32) ++ room 6
+
+-- `small` after its message is delivered: home has a plain token, is valid and has the words; the message's bytes are left where they were
+abbrev pub deliveredSmall : List ℕ
+deliveredSmall =
+    (2 ∷ 1 ∷ 3 ∷ 0 ∷ room 28) ++ smallMesh ++ (1 ∷ 0 ∷ 1 ∷ none 13) ++ (0 ∷ 1 ∷ 0 ∷ none 13) ++ (1 ∷ 1 ∷ 1 ∷ none 13) ++ (0 ∷ 1 ∷ 0 ∷ none 13) ++ room 16
+    ++ smallSets ++ smallWords ++ smallWords ++ smallWords ++ room (13 * 32) ++ room 6
+
+pub record BytesAfter : Type 0 where
+  pub opened : openAfter 2 1 3 (room 3230) ≡ openedSmall
+  pub delivered : stepAfter (smallRecord ++ room 6) (0x13 ∷ 0x00 ∷ 0x04 ∷ 0x09 ∷ 0x00 ∷ 0x01 ∷ 0x00 ∷ []) ≡ deliveredSmall
+
 -- ---- the record with other bytes at some places
 
 abbrev pub altered : List ℕ → List (ℕ × ℕ) → List ℕ
@@ -124,14 +143,14 @@ block = 32 + 64 * 40
 
 pub record AlteredBytes : Type 0 where
   -- one byte of each sort that makes `small` unsound: the mark of board 2, which has no owner; a plain token and a mark above N; a mark of the message, which
-  -- has no owner; its byte 7; place 0 of the barring sets, and place 3; valid of 2
+  -- has no owner; its byte 7; place 0 of the barring sets, and place 3; a valid byte that is 2
   pub unsound :
       map (λ p. soundBytes (altered smallRecord (p ∷ [])))
       ((block + 50, 1) ∷ (block + 3, 1) ∷ (block + 51, 1) ∷ (32 + 6, 1) ∷ (32 + 7, 1) ∷ (block + 81, 1) ∷ (block + 87, 1) ∷ (block + 33, 2) ∷ [])
       ≡ replicate 8 false
   -- so does a byte that is lacking
   pub short : soundBytes (take 3223 smallRecord) ≡ false
-  -- bytes of room do not: in the header, behind the count of messages, behind the lanes and the sets; a word above N
+  -- these do not: room in the header, behind the lanes and behind the sets; a message past the count; a word of a component above N
   pub sound : soundBytes (altered smallRecord ((4, 0x55) ∷ (72, 0x55) ∷ (block + 64, 0x55) ∷ (block + 114, 0x55) ∷ (block + 120 + 3 * 32, 0x55) ∷ [])) ≡ true
 
 -- ---- the offsets and sizes of RecordLayout.antt, those too that its layouts do not use: each is where the layout has that figure
@@ -141,7 +160,7 @@ pub record Offsets : Type 0 where
   pub counts : map (λ (count : List ℕ → ℕ). count largeRecord) (layout.boardsIn ∷ layout.blocksIn ∷ layout.tokensIn ∷ layout.messagesIn ∷ []) ≡ 15 ∷ 3 ∷ 64 ∷ 4 ∷ []
   -- a message of any header
   pub message : (c k b p : ℕ) (o : Owner) (d : Bool)
-      → map (λ at. getD (layout.message .write (record { header = record { sender = c; target = k; block = b; plain = p; owner = o; «data» = d }; words = replicate 8 0x01010101 }) (room 40)) at 0)
+      → map (λ at. getD (layout.message .write (record { header = record { sender = c; target = k; block = b; plain = p; owner = o; «data» = d }; words = replicate 8 0x01010101 }) (room 40)) at 1)
       (layout.senderOffset ∷ layout.targetOffset ∷ layout.messageBlockOffset ∷ layout.messagePlainOffset ∷ layout.messageOwnerOffset ∷ layout.dataOffset
       ∷ layout.messageDirtyOffset ∷ layout.messageZeroOffset ∷ [])
       ≡ c ∷ k ∷ b ∷ p ∷ toℕ (present o) ∷ toℕ d ∷ toℕ (layout.dirty o) ∷ 0 ∷ []

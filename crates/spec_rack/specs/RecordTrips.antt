@@ -29,7 +29,8 @@ pub record Written (r : Rack) (s : List ℕ) : Type 0 where
 pub record RecordTrips : Type 0 where
   -- so it is of every sound rack whose words fit, in every buffer that is long enough
   pub written : (r : Rack) (s : List ℕ) → sound r ≡ true → wordsFit r ≡ true → Bytes s → recordLength (length (r .blocks)) ≤ length s → Written r s
-  -- A buffer holds a sound record exactly where a sound rack whose words fit, written over it, changes no byte. The rack that is read is such a rack:
+  -- A buffer holds a sound record exactly where it is long enough for some sound rack whose words fit, and that rack, written over it, changes no byte. The
+  -- rack that is read is such a rack:
   pub read : (s : List ℕ) → Bytes s → soundBytes s ≡ true → (sound (get s) ≡ true) × (wordsFit (get s) ≡ true)
   pub unchanged : (s : List ℕ) → Bytes s → soundBytes s ≡ true → put (get s) s ≡ s
   -- and where there is one, the record is sound and is read as that rack

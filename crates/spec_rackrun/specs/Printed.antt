@@ -1,5 +1,5 @@
--- Document 01, "Program rackrun", with document 02, Nos. 1, 2 and 7: lines and texts as they are printed, each an equation that is computed. They hold the
--- definitions to the paper where a theorem about both definition and code could not tell a wrong reading.
+-- Document 01, "Program rackrun", with document 02, Nos. 1, 2 and 7: lines and texts as they are printed. Each is an equation that is computed, but for what is
+-- used of an input, which is of every input. They hold the definitions to the paper where a theorem about both definition and code could not tell a wrong reading.
 use Prim.Native.Nat.{ℕ, _≤_}
 use mathlib.Core.Path.{_≡_}
 use mathlib.Core.Bool.{true, false}
@@ -50,7 +50,7 @@ pub record Printed : Type 0 where
   pub all-digits : line 10 (Accepted (Word 0x89ABCDEF)) ≡ ascii "10 v89abcdef\n"
   pub refusal : line 5 (Refused NoToken) ≡ ascii "5 r5\n"
   pub longest : line 21845 (Refused ShortBuffer) ≡ ascii "21845 r20\n"
-  -- and the largest numbers of a byte: both decimal, with no zero in front
+  -- whom a deliver served, and the largest numbers of a byte: both decimal, with no zero in front
   pub served : line 3 (Accepted (Served 3 10)) ≡ ascii "3 d3.10\n"
   pub served-largest : line 21845 (Accepted (Served 255 255)) ≡ ascii "21845 d255.255\n"
   -- "It uses the first 65,536 bytes": of any input as long or longer those, and of a shorter one all

@@ -11,12 +11,13 @@ use Rattle.spec_wire.specs.declared.Field.{Field}
 use Rattle.spec_wire.specs.declared.Reading.{Reading}
 use Rattle.spec_wire.specs.declared.Reading.the-variants.{Step, Refused}
 use Rattle.wire_reader.specs.declared.body.Parsed.{Parsed}
+use Rattle.spec_wire.specs.Kinds.{component, position}
 use Rattle.spec_wire.specs.StepRecord.{fieldSize}
 use Rattle.spec_wire.specs.Reader.{fieldParses, valueAt}
 
--- t says whether a byte is this tag, which is one of the table
+-- t says whether a byte is this tag, which is one of the table: the component's is the lowest, the position's the highest
 abbrev pub TagSeen : ℕ → ℕ → Bool → Type 0
-TagSeen tag byte t = 1 ≤ tag → tag ≤ 9 → t ≡ eqb byte tag
+TagSeen tag byte t = component .tag ≤ tag → tag ≤ position .tag → t ≡ eqb byte tag
 
 -- the bytes have room for the field at `at`, and its value is one byte or four
 pub record FieldRoom (f : Field) (at : ℕ) (bs : List ℕ) : Type 0 where
