@@ -89,6 +89,17 @@ returns-2 c =
 wide-requires-2 : tie.Need-wide-requires-2 Inv-loop μ-loop
 wide-requires-2 c κs = search needs
 
+-- The verdict stands before what the shift asks for, so that a wrong count of places is refused there first.
+returns-3 : tie.Need-returns-3 Inv-loop μ-loop
+returns-3 c =
+    let l = c .before .before .before .loop in
+    let known = c .before .before .before .before .before in
+    let a = known .before .args in
+    let bytes : Bytes (a .s .now) = λ k. known .shared-slice-known .given k .fits in
+    let all : l .b ≡ a .count = omega arith in
+    ap (λ (n : ℕ). eqb (l .high / 2 ^ (8 * (n - 7))) 0) (c .wide2 .ensures .0)
+    ∙ rooms-high (a .s .now) (a .boards) (a .count) bytes (l .high) (subst (λ (z : ℕ). Seeing (a .s .now) bytes 8 z (l .high)) all (l .inv .1 bytes .1)) (omega arith)
+
 sub-used : tie.Need-sub-used Inv-loop μ-loop
 sub-used c = search needs
 
@@ -100,16 +111,6 @@ cast-result c = search needs
 
 shr-result : tie.Need-shr-result Inv-loop μ-loop
 shr-result c = search needs
-
-returns-3 : tie.Need-returns-3 Inv-loop μ-loop
-returns-3 c =
-    let l = c .before .before .before .loop in
-    let known = c .before .before .before .before .before in
-    let a = known .before .args in
-    let bytes : Bytes (a .s .now) = λ k. known .shared-slice-known .given k .fits in
-    let all : l .b ≡ a .count = omega arith in
-    ap (λ (n : ℕ). eqb (l .high / 2 ^ (8 * (n - 7))) 0) (c .wide2 .ensures .0)
-    ∙ rooms-high (a .s .now) (a .boards) (a .count) bytes (l .high) (subst (λ (z : ℕ). Seeing (a .s .now) bytes 8 z (l .high)) all (l .inv .1 bytes .1)) (omega arith)
 
 pub unused-lanes-empty-spec : {M : Type 1} → statement M
 unused-lanes-empty-spec =
