@@ -17,9 +17,8 @@ use Rattle.spec_base.specs.Layout.{slice, byte, flag, big, pair, items, wellFor
 use Rattle.spec_base.proofs.Laws.{length-readItems}
 use Rattle.spec_base.proofs.Places.{read-byte, read-pair, formed-below}
 use Rattle.spec_rack.specs.Rack.{present}
-use Rattle.spec_rack.specs.RecordLayout.{claims, messageSize, messageOffset, blockSize, blockOffset, claimsOffset, ownerOf, toTokens, dirtyHasOwner, tokenBytes, tokens, words, endpoints, messageHeader, toMessage, message, tokenLanes, block, header, rackLayout, layoutOf, blocksIn, boardsIn, claimsRoom, claimsSize, lanesSize, messagesIn, meshRoom, headerSize, targetOffset, messageBlockOffset, messagePlainOffset, messageOwnerOffset, dataOffset, messageDirtyOffset, messageZeroOffset, messageWordsOffset, wordsSize, laneSize}
-use Rattle.spec_rack.proofs.LayoutParts.{heading-size, words-size, message-size, lanes-size, claims-size, block-size, header-size, blockTokens, blockClaims, blockWords}
-use Rattle.record.proofs.FieldOffsets.{header-formed}
+use Rattle.spec_rack.specs.RecordLayout.{claims, messageSize, messageOffset, blockSize, blockOffset, claimsOffset, ownerOf, toTokens, dirtyHasOwner, tokenBytes, tokens, words, endpoints, messageHeader, toMessage, message, tokenLanes, block, header, rackLayout, layoutOf, blocksIn, boardsIn, formatMagic, formatIn, claimsRoom, claimsSize, lanesSize, messagesIn, meshRoom, headerSize, targetOffset, messageBlockOffset, messagePlainOffset, messageOwnerOffset, dataOffset, messageDirtyOffset, messageZeroOffset, messageWordsOffset, wordsSize, laneSize}
+use Rattle.spec_rack.proofs.LayoutParts.{heading-size, words-size, message-size, lanes-size, claims-size, block-size, header-size, header-form, blockTokens, blockClaims, blockWords}
 use Rattle.spec_base.proofs.Padded.{formed-room, formed-zeroed, padded-read}
 use Rattle.spec_base.proofs.Forms.{formed-pair, formed-items, numbers-zero}
 
@@ -160,15 +159,16 @@ module _ (s : List ℕ) where
 
   pub record-formed : messagesIn s ≤ 64
       → layoutOf s .wellFormed s
-      ≡ (allBelow (messagesIn s) (λ i. message .wellFormed (slice (messageOffset i) messageSize s)) && allBelow (blocksIn s) (λ b. block (boardsIn s) .wellFormed (slice (blockOffset b) blockSize s)))
+      ≡ (eqb (formatIn s) formatMagic && (allBelow (messagesIn s) (λ i. message .wellFormed (slice (messageOffset i) messageSize s)) && allBelow (blocksIn s) (λ b. block (boardsIn s) .wellFormed (slice (blockOffset b) blockSize s))))
   unfolding rackLayout
   record-formed hm =
       let n : ℕ = boardsIn s in
       let b : ℕ = blocksIn s in
       let m : ℕ = messagesIn s in
-      (λ i. header-formed (take (header .size) s) i && pair (items message meshRoom m) (items (block n) b b) .wellFormed (slice (header-size i) (meshRoom * message .size + b * block n .size) s))
-      ∙ formed-pair (items message meshRoom m) (items (block n) b b) headerSize s
-      ∙ (λ i.
+      (λ i. header .wellFormed (take (header-size i) s) && pair (items message meshRoom m) (items (block n) b b) .wellFormed (slice (header-size i) (meshRoom * message .size + b * block n .size) s))
+      ∙ (λ i. header-form s i && formed-pair (items message meshRoom m) (items (block n) b b) headerSize s i)
+      ∙ ap (λ (w : Bool). eqb (formatIn s) formatMagic && w)
+      (λ i.
       formed-items message messageSize message-size meshRoom m headerSize s hm i
       && (formed-items (block n) blockSize (block-size n) b b (headerSize + meshRoom * message .size) s (le-refl b)
       ∙ (λ j. allBelow b (λ k. block n .wellFormed (slice (headerSize + meshRoom * message-size j + blockSize * k) blockSize s)))) i)

@@ -2,15 +2,14 @@
 use Prim.Native.Nat.{ℕ, zero, suc, _+_, _*_, _-_, _≤_, _<_}
 use native.Mathlib.Nat.{le-trans, le-of-eq, mul-le-mul-right, not-suc-le-zero, le-of-suc-le-suc}
 use native.Mathlib.Omega.{arith}
-use mathlib.Core.Path.{_≡_, refl, sym, ap, _∙_, subst}
-use mathlib.Core.Bool.{true}
+use mathlib.Core.Path.{_≡_, sym, ap, _∙_, subst}
 use mathlib.Core.List.{List, [], _∷_, _++_}
 use lib.ListN.{length, getD, set, take, drop, length-append, length-set}
 use lib.Seq.{length-take-le, set-append-left, set-getD}
 use Rattle.spec_base.specs.Folds.{removeAt}
 use Rattle.spec_base.specs.Layout.{Layout, slice, modifyAt, pair, items, readItems, writeItems}
 use Rattle.spec_base.proofs.Folds.{all-at}
-use Rattle.spec_base.proofs.Parts.{bytes-take, over-over, length-part, part-part}
+use Rattle.spec_base.proofs.Parts.{over-over, length-part, part-part}
 use Rattle.spec_base.proofs.Laws.{Stands, StandItems}
 use Rattle.spec_base.proofs.Places.{Place, within, item, over-in}
 use Rattle.spec_base.proofs.Copies.{items-more, items-removed}
@@ -21,12 +20,7 @@ use Rattle.spec_rack.specs.Rack.{Cell, Block, Rack, noCell, noBlock, noMessage,
 use Rattle.spec_rack.specs.Rules.{withClaims}
 use Rattle.record.specs.Changes.{withMesh, replaceCell}
 use Rattle.spec_rack.proofs.LayoutParts.{BlockFits, words-size, claims-size, message-size, header-size, message-lawful, message-full, header-lawful}
-use Rattle.spec_rack.proofs.GetPut.{token-bytes-in, lanes-in, count-write, mesh-place, claims-place, block-place, words-place, withWords, tokens-spread, cell-spread, Formed, law, boards-is, blocks-is, tokens-is, mesh-is, put-get, stands, read-figure, write-figure, stands-figure, read-spread, write-spread, mesh-items, mesh-stands, mesh-unchanged}
-
--- the header is of its form whatever it holds
-pub header-formed : (s : List ℕ) → header .wellFormed s ≡ true
-unfolding header
-header-formed s = refl
+use Rattle.spec_rack.proofs.GetPut.{token-bytes-in, lanes-in, count-write, mesh-place, claims-place, block-place, words-place, withWords, tokens-spread, cell-spread, Formed, law, boards-is, blocks-is, tokens-is, mesh-is, put-get, stands, header-stands, read-figure, write-figure, stands-figure, read-spread, write-spread, mesh-items, mesh-stands, mesh-unchanged}
 
 -- the words of a component, in any bytes whose header has sizes that the layout has room for
 pub words-look : (s : List ℕ) (b c : ℕ) → boardsIn s ≤ 15 → messagesIn s ≤ 64 → b < blocksIn s → c ≤ boardsIn s → cellAt (get s) b c .words ≡ words .read (slice (cellWordsOffset b c) wordsSize s)
@@ -186,11 +180,11 @@ module _ (s : List ℕ) (ok : Formed s) where
       let lk : length (take k s) ≡ k = length-take-le k s (omega (arith, long, header-size)) in
       let x : List ℕ = rest .write (l, layoutOf s .read s .1 .1) (slice k (rest .size) s) ++ drop (k + rest .size) s in
       mesh-write l
-      ∙ ap (λ (t : List ℕ). t ++ x) (count-write s (length l) (ok .bytes) long)
+      ∙ ap (λ (t : List ℕ). t ++ x) (count-write s (length l) long (header-stands s ok))
       ∙ sym (set-append-left (take k s) x messageCountOffset (length l) (omega (arith, header-size)))
       ∙ ap (λ (t : List ℕ). set t messageCountOffset (length l))
       (ap (λ (t : List ℕ). t ++ x)
-      (sym (header-lawful .unchanged (take k s) (record { bytes = bytes-take k s (ok .bytes); wellFormed = header-formed (take k s); room = le-of-eq (sym lk) })))
+      (sym (header-lawful .unchanged (take k s) (header-stands s ok)))
       ∙ same-count l)
 
   slots-length : length (slice headerSize (meshRoom * message .size) s) ≡ meshRoom * message .size

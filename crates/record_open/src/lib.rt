@@ -6,6 +6,7 @@ ghost use Rattle.spec_base.specs.Layout.{modifyAt};
 ghost use Rattle.spec_rack.specs.Rack.{freshBlock, fresh};
 ghost use Rattle.spec_rack.specs.RecordLayout.{blockSize, recordLength, block, put};
 ghost use Rattle.spec_rack.specs.Opening.{openReply, openAfter};
+use base::numbers::put_u32;
 use record::sizes;
 use spec_rack::Answer;
 use spec_rack::BLOCK_COUNT_OFFSET;
@@ -14,6 +15,8 @@ use spec_rack::BLOCKS_OFFSET;
 use spec_rack::BOARD_COUNT_OFFSET;
 use spec_rack::CLAIMS_OFFSET;
 use spec_rack::CLAIMS_SIZE;
+use spec_rack::FORMAT_MAGIC;
+use spec_rack::FORMAT_OFFSET;
 use spec_rack::LANES_SIZE;
 use spec_rack::MESSAGE_COUNT_OFFSET;
 use spec_rack::OWNER_OFFSET;
@@ -57,6 +60,7 @@ fn write_fresh(rec: &mut [u8], boards: u32, blocks: u32, tokens: u32)
     requires { ⌜ (boards < 16) × (1 ≤ tokens) × (tokens ≤ 64) × (blocks ≤ 32) × (recordLength blocks ≤ length (now rec)) ⌝ }
     ensures { λ r. ⌜ now (rec .exit) ≡ put (fresh boards blocks tokens) (now (rec .entry)) ⌝ }
 {
+    put_u32(rec, FORMAT_OFFSET, FORMAT_MAGIC);
     rec[BOARD_COUNT_OFFSET] = boards as u8;
     rec[BLOCK_COUNT_OFFSET] = blocks as u8;
     rec[TOKEN_COUNT_OFFSET] = tokens as u8;

@@ -14,7 +14,7 @@ use Rattle.spec_base.specs.Layout.{slice}
 use Rattle.spec_base.proofs.Tests.{and-l, and-r, and-of, and-left, and-right, and-known, same-test, one-lt, eqb-one, cond-of}
 use Rattle.spec_base.proofs.Folds.{below-of, below-at, below-same, at-set, every-below, sum-next, sum-most, sum-below, sum-short, sum-scaled}
 use Rattle.spec_arbiter.specs.Claims.{soundClaims}
-use Rattle.spec_rack.specs.RecordLayout.{claims, claimsAtOffset as claimsBytes, messageOffset, blockOffset, ownerOffset, validOffset, dirtyOffset, claimsOffset, wordsOffset, wordsSize, Tokens, ownerOf, toTokens, words, toCell, message, tokenLanes, block, recordLength, layoutOf, get, blockSize, blocksIn, boardsIn, claimsSize, lanesSize, messageSize, messagesIn, tokensIn, targetOffset, messageBlockOffset, messagePlainOffset, messageOwnerOffset, dataOffset, messageDirtyOffset, messageWordsOffset, laneSize}
+use Rattle.spec_rack.specs.RecordLayout.{claims, claimsAtOffset as claimsBytes, messageOffset, blockOffset, ownerOffset, validOffset, dirtyOffset, claimsOffset, wordsOffset, wordsSize, Tokens, ownerOf, toTokens, words, toCell, message, tokenLanes, block, recordLength, layoutOf, get, formatMagic, formatIn, blockSize, blocksIn, boardsIn, claimsSize, lanesSize, messageSize, messagesIn, tokensIn, targetOffset, messageBlockOffset, messagePlainOffset, messageOwnerOffset, dataOffset, messageDirtyOffset, messageWordsOffset, laneSize}
 use Rattle.spec_rack.specs.declared.Owner.{Owner}
 use Rattle.spec_rack.specs.declared.Message.{Message}
 use Rattle.spec_rack.specs.Rack.{Cell, meshLimit, present, owners, held, carried, noCell, noMessage, blockAt, cellAt, messageAt, tokensOf, ownersOf}
@@ -177,7 +177,7 @@ module _ (s : List ℕ) (ok : Formed s) where
     block-form =
         sym (block-formed s n home (ok .boards))
         ∙ below-at (λ j. block n .wellFormed (slice (blockOffset j) blockSize s)) b
-        (and-r (allBelow m (λ i. message .wellFormed (slice (messageOffset i) messageSize s))) (allBelow b (λ j. block n .wellFormed (slice (blockOffset j) blockSize s))) (sym (record-formed s (ok .messages)) ∙ ok .wellFormed)) k hk
+        (and-r (allBelow m (λ i. message .wellFormed (slice (messageOffset i) messageSize s))) (allBelow b (λ j. block n .wellFormed (slice (blockOffset j) blockSize s))) (and-r (eqb (formatIn s) formatMagic) _ (sym (record-formed s (ok .messages)) ∙ ok .wellFormed))) k hk
 
     lanes : Lanes n home s (ok .boards)
     lanes = lanes-facts n home s (ok .boards) (and-l (tokenLanes n .wellFormed (slice home lanesSize s)) (claims n .wellFormed (slice (home + claimsOffset) claimsSize s)) block-form)
@@ -295,6 +295,9 @@ module _ (s : List ℕ) where
   abbrev pub headerFine : Bool
   headerFine = sizes (boardsIn s) (blocksIn s) (tokensIn s) && leb (messagesIn s) 64
 
+  abbrev pub formatKnown : Bool
+  formatKnown = eqb (formatIn s) formatMagic
+
   abbrev pub meshFine : Bool
   meshFine = allBelow (messagesIn s) (λ i. soundMessageAt (boardsIn s) (blocksIn s) s (messageOffset i))
 
@@ -318,11 +321,12 @@ module _ (s : List ℕ) where
   unfolding sound meshLimit
   header-of q = (λ i. sizes (sym (boards-is s) i) (sym (blocks-is s) i) (sym (tokens-is s) i) && leb (sym (mesh-is s) i) 64) ∙ and-l _ _ (and-l _ _ q)
 
-  form-of : headerFine ≡ true → meshFine ≡ true → blocksFine ≡ true → layoutOf s .wellFormed s ≡ true
+  form-of : headerFine ≡ true → formatKnown ≡ true → meshFine ≡ true → blocksFine ≡ true → layoutOf s .wellFormed s ≡ true
   unfolding soundMessageAt soundBlockAt
-  form-of q a b =
+  form-of q f a b =
       let n : ℕ = boardsIn s in
       record-formed s (few-messages q)
+      ∙ and-known formatKnown _ f
       ∙ and-of (allBelow (messagesIn s) (λ i. message .wellFormed (slice (messageOffset i) messageSize s))) (allBelow (blocksIn s) (λ k. block n .wellFormed (slice (blockOffset k) blockSize s)))
       (below-of (λ i. message .wellFormed (slice (messageOffset i) messageSize s)) (messagesIn s)
       (λ i l. and-l (message .wellFormed (slice (messageOffset i) messageSize s)) _ (below-at (λ j. soundMessageAt n (blocksIn s) s (messageOffset j)) (messagesIn s) a i l)))
@@ -340,49 +344,57 @@ module _ (s : List ℕ) where
       (and-l (claims n .wellFormed (slice (home + claimsOffset) claimsSize s)) (soundClaims n (claimsBytes n (home + claimsOffset) s)) sets)))
 
   module _ (h : Bytes s) where
-    sound-is : soundBytes s ≡ (longEnough && (headerFine && meshFine && blocksFine))
+    abbrev restSound : Bool
+    restSound = headerFine && meshFine && blocksFine
+
+    sound-is : soundBytes s ≡ (longEnough && (formatKnown && restSound))
     unfolding soundBytes
     sound-is =
-        same-test (soundBytes s) (longEnough && (headerFine && meshFine && blocksFine))
+        same-test (soundBytes s) (longEnough && (formatKnown && restSound))
         (λ q.
         let e : headerFine ≡ true = header-of (and-r (wellFormedRecord s) (sound (get s)) q) in
         let ok : Formed s = formed-of s h (few-boards e) (few-messages e) (and-l (wellFormedRecord s) (sound (get s)) q) in
-        and-of longEnough (headerFine && meshFine && blocksFine) (le-leb (recordLength (blocksIn s)) (length s) (ok .room)) (sym (decided s ok) ∙ and-r (wellFormedRecord s) (sound (get s)) q))
+        and-of longEnough (formatKnown && restSound) (le-leb (recordLength (blocksIn s)) (length s) (ok .room))
+        (and-of formatKnown restSound (and-l formatKnown _ (sym (record-formed s (ok .messages)) ∙ ok .wellFormed)) (sym (decided s ok) ∙ and-r (wellFormedRecord s) (sound (get s)) q)))
         (λ q.
-        let fine : (headerFine && meshFine && blocksFine) ≡ true = and-r longEnough (headerFine && meshFine && blocksFine) q in
+        let both : (formatKnown && restSound) ≡ true = and-r longEnough (formatKnown && restSound) q in
+        let fine : restSound ≡ true = and-r formatKnown restSound both in
         let e : headerFine ≡ true = and-l headerFine meshFine (and-l (headerFine && meshFine) blocksFine fine) in
         let ok : Formed s =
         record {
           bytes = h;
           boards = few-boards e;
           messages = few-messages e;
-          room = leb-true (recordLength (blocksIn s)) (length s) (and-l longEnough (headerFine && meshFine && blocksFine) q);
-          wellFormed = form-of e (and-r headerFine meshFine (and-l (headerFine && meshFine) blocksFine fine)) (and-r (headerFine && meshFine) blocksFine fine);
+          room = leb-true (recordLength (blocksIn s)) (length s) (and-l longEnough (formatKnown && restSound) q);
+          wellFormed = form-of e (and-l formatKnown restSound both) (and-r headerFine meshFine (and-l (headerFine && meshFine) blocksFine fine)) (and-r (headerFine && meshFine) blocksFine fine);
         } in
         and-of (wellFormedRecord s) (sound (get s)) (well-formed s ok) (decided s ok ∙ fine))
+
+    rest-fails : restSound ≡ false → soundBytes s ≡ false
+    rest-fails e = sound-is ∙ and-right longEnough (formatKnown && restSound) (and-right formatKnown restSound e)
 
     -- ---- as the code asks
 
     pub unsound-room : length s < recordLength (blocksIn s) → soundBytes s ≡ false
-    unsound-room l = sound-is ∙ and-left longEnough (headerFine && meshFine && blocksFine) (lt-leb (recordLength (blocksIn s)) (length s) l)
+    unsound-room l = sound-is ∙ and-left longEnough (formatKnown && restSound) (lt-leb (recordLength (blocksIn s)) (length s) l)
 
     pub unsound-header : headerFine ≡ false → soundBytes s ≡ false
-    unsound-header e =
-        sound-is ∙ and-right longEnough (headerFine && meshFine && blocksFine)
-        (and-left (headerFine && meshFine) blocksFine (and-left headerFine meshFine e))
+    unsound-header e = rest-fails (and-left (headerFine && meshFine) blocksFine (and-left headerFine meshFine e))
+
+    pub unsound-format : formatKnown ≡ false → soundBytes s ≡ false
+    unsound-format e = sound-is ∙ and-right longEnough (formatKnown && restSound) (and-left formatKnown restSound e)
 
     pub unsound-mesh : meshFine ≡ false → soundBytes s ≡ false
-    unsound-mesh e =
-        sound-is ∙ and-right longEnough (headerFine && meshFine && blocksFine)
-        (and-left (headerFine && meshFine) blocksFine (and-right headerFine meshFine e))
+    unsound-mesh e = rest-fails (and-left (headerFine && meshFine) blocksFine (and-right headerFine meshFine e))
 
     -- with the sums of the mesh
-    pub sound-blocks : headerFine ≡ true → recordLength (blocksIn s) ≤ length s → meshFine ≡ true
+    pub sound-blocks : headerFine ≡ true → formatKnown ≡ true → recordLength (blocksIn s) ≤ length s → meshFine ≡ true
         → (sums : List ℕ) → ((k : ℕ) → k < 32 → getD sums k 0 ≡ sumInFlight s (messagesIn s) k)
         → allBelow (blocksIn s) (λ k. soundBlockAt (boardsIn s) (tokensIn s) s (blockOffset k) (getD sums k 0)) ≡ soundBytes s
-    sound-blocks e l a sums f =
+    sound-blocks e w l a sums f =
         let few : blocksIn s ≤ 32 = few-blocks e in
         below-same (λ k. soundBlockAt (boardsIn s) (tokensIn s) s (blockOffset k) (getD sums k 0)) (λ k. soundBlockAt (boardsIn s) (tokensIn s) s (blockOffset k) (sumInFlight s (messagesIn s) k)) (blocksIn s)
         (λ k z. ap (soundBlockAt (boardsIn s) (tokensIn s) s (blockOffset k)) (f k (omega arith)))
-        ∙ sym (sound-is ∙ and-known longEnough (headerFine && meshFine && blocksFine) (le-leb (recordLength (blocksIn s)) (length s) l)
+        ∙ sym (sound-is ∙ and-known longEnough (formatKnown && restSound) (le-leb (recordLength (blocksIn s)) (length s) l)
+        ∙ and-known formatKnown restSound w
         ∙ and-known (headerFine && meshFine) blocksFine (and-of headerFine meshFine e a))

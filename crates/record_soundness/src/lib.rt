@@ -5,15 +5,17 @@ pub mod block_set;
 ghost use mathlib.Core.Path.{_≡_};
 ghost use mathlib.Core.Bool.{true, _&&_};
 ghost use Prim.Native.Nat.{ℕ, _+_, _*_, _≤_, _<_};
+ghost use lib.Dec.{eqb};
 ghost use lib.ListN.{length, getD, replicate};
 ghost use Rattle.spec_base.specs.Folds.{allBelow, implies};
 ghost use Rattle.spec_arbiter.specs.Boards.{member};
 ghost use Rattle.spec_rack.specs.Soundness.{sizes, soundBytes};
-ghost use Rattle.spec_rack.specs.RecordLayout.{blockSize, blocksOffset, blockOffset, messageOffset, recordLength};
+ghost use Rattle.spec_rack.specs.RecordLayout.{formatMagic, headerSize, blockSize, blocksOffset, blockOffset, messageOffset, recordLength, formatIn};
 ghost use Rattle.record_message.specs.Messages.{soundMessageAt};
 ghost use Rattle.record_soundness.specs.Decision.{sumInFlight, tokensTotal, soundClaimsAt, soundBlockAt};
 use base::both;
 use base::wide;
+use base::wide_at;
 use record::sizes;
 use record_lanes::sum16;
 use record_message::sound_message_at;
@@ -23,6 +25,8 @@ use spec_rack::BLOCK_SIZE;
 use spec_rack::BLOCKS_OFFSET;
 use spec_rack::BOARD_COUNT_OFFSET;
 use spec_rack::CLAIMS_OFFSET;
+use spec_rack::FORMAT_MAGIC;
+use spec_rack::FORMAT_OFFSET;
 use spec_rack::HEADER_SIZE;
 use spec_rack::MESH_LIMIT;
 use spec_rack::MESSAGE_BLOCK_OFFSET;
@@ -31,6 +35,12 @@ use spec_rack::MESSAGE_PLAIN_OFFSET;
 use spec_rack::MESSAGE_SIZE;
 use spec_rack::OWNER_OFFSET;
 use spec_rack::TOKEN_COUNT_OFFSET;
+
+// The four bytes of the format low byte first, as the machine loads them.
+const FORMAT_LOW_FIRST: u32 = FORMAT_MAGIC / 16777216
+    + FORMAT_MAGIC / 65536 % 256 * 256
+    + FORMAT_MAGIC / 256 % 256 * 65536
+    + FORMAT_MAGIC % 256 * 16777216;
 
 // Whether the messages are sound; if so, each block's tokens in flight are added to its sum.
 fn mesh_sound(rec: &[u8], boards: u8, blocks: u8, count: usize, sums: &mut [u32; 32]) -> bool
@@ -120,6 +130,18 @@ fn sizes_in_range(boards: u8, blocks: u8, tokens: u8) -> bool
     sizes::in_range(wide(boards), wide(blocks), wide(tokens))
 }
 
+// Whether the record has the format of this layout. The bytes are only compared, so they are loaded low byte first.
+fn format_known(rec: &[u8]) -> bool
+    requires { ⌜ headerSize ≤ length (now rec) ⌝ }
+    ensures { λ r. ⌜ r ≡ eqb (formatIn (now (rec .entry))) formatMagic ⌝ }
+{
+    let a = wide_at(rec, FORMAT_OFFSET);
+    let b = wide_at(rec, FORMAT_OFFSET + 1);
+    let c = wide_at(rec, FORMAT_OFFSET + 2);
+    let d = wide_at(rec, FORMAT_OFFSET + 3);
+    a + b * 256 + c * 65536 + d * 16777216 == FORMAT_LOW_FIRST
+}
+
 // Whether the buffer holds a sound record.
 pub fn sound(rec: &[u8]) -> bool
     ensures { λ r. ⌜ r ≡ soundBytes (now (rec .entry)) ⌝ }
@@ -135,6 +157,9 @@ pub fn sound(rec: &[u8]) -> bool
         sizes_in_range(boards, blocks, tokens),
         messages <= MESH_LIMIT,
     ) {
+        return false;
+    }
+    if !format_known(rec) {
         return false;
     }
     let count = wide(blocks) as usize;

@@ -1,4 +1,4 @@
--- Numbers of two and of four bytes at an offset: what is read there, and what is written byte by byte; by laws over any width.
+-- Numbers of two and of four bytes at an offset: what is read there, compared, and written byte by byte; by laws over any width.
 use Prim.Native.Nat.{ℕ, zero, suc, _+_, _*_, _/_, _%_, _^_, _≤_, _<_}
 use native.Mathlib.Nat.{le-refl, zero-add, suc-add}
 use native.Mathlib.Numerals.{unary-clauses, one-add}
@@ -7,8 +7,11 @@ use mathlib.Core.Path.{_≡_, sym, ap, _∙_}
 use mathlib.Core.List.{List, [], _∷_}
 use lib.ListN.{length, getD, set, take, drop, length-set, take-append-drop}
 use lib.Seq.{take-take}
+use lib.Dec.{eqb}
+use borrow.Author.Tests.{eq-eqb, eqb-true}
 use Rattle.spec_base.specs.Number.{number}
 use Rattle.spec_base.specs.Layout.{slice, modifyAt, overwrite, big}
+use Rattle.spec_base.proofs.Tests.{same-test}
 use Rattle.spec_base.proofs.Numbers.{number-two, number-four}
 
 -- ---- read
@@ -22,6 +25,32 @@ read-two p s l = big-read 2 p s ∙ number-two p s l
 pub read-four : (p : ℕ) (s : List ℕ) → p + 4 ≤ length s
     → big 4 .read (slice p 4 s) ≡ getD s p 0 * 16777216 + getD s (p + 1) 0 * 65536 + getD s (p + 2) 0 * 256 + getD s (p + 3) 0
 read-four p s l = big-read 4 p s ∙ number-four p s l
+
+-- ---- compared: two numbers of four bytes are the same exactly where they are so with their low bytes first
+
+pub same-low-first : (a b c d p q r t : ℕ) → a < 256 → b < 256 → c < 256 → d < 256 → p < 256 → q < 256 → r < 256 → t < 256
+    → eqb (a + b * 256 + c * 65536 + d * 16777216) (p + q * 256 + r * 65536 + t * 16777216)
+    ≡ eqb (a * 16777216 + b * 65536 + c * 256 + d) (p * 16777216 + q * 65536 + r * 256 + t)
+same-low-first a b c d p q r t ha hb hc hd hp hq hr ht =
+    let low : ℕ = a + b * 256 + c * 65536 + d * 16777216 in
+    let low′ : ℕ = p + q * 256 + r * 65536 + t * 16777216 in
+    let high : ℕ = a * 16777216 + b * 65536 + c * 256 + d in
+    let high′ : ℕ = p * 16777216 + q * 65536 + r * 256 + t in
+    same-test (eqb low low′) (eqb high high′)
+    (λ e.
+    let same : low ≡ low′ = eqb-true low low′ e in
+    let ed : d ≡ t = omega arith in
+    let ec : c ≡ r = omega arith in
+    let eb : b ≡ q = omega arith in
+    let ea : a ≡ p = omega arith in
+    eq-eqb high high′ (omega arith))
+    (λ e.
+    let same : high ≡ high′ = eqb-true high high′ e in
+    let ea : a ≡ p = omega arith in
+    let eb : b ≡ q = omega arith in
+    let ec : c ≡ r = omega arith in
+    let ed : d ≡ t = omega arith in
+    eq-eqb low low′ (omega arith))
 
 -- ---- written
 

@@ -13,6 +13,8 @@ unfolding meshLimit bit member allBelow sound soundClaims boardsOnly soundBarrin
 altered-bytes =
     record {
       unsound = refl;
+      another-format = refl;
+      no-format = refl;
       short = refl;
       sound = refl;
     }

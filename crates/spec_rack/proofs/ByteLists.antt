@@ -2,7 +2,7 @@
 -- so the claim on lists of steps is one on lists of byte strings.
 use Prim.Native.Nat.{ℕ, _^_}
 use mathlib.Core.Path.{_≡_, refl, sym, ap, _∙_, subst}
-use mathlib.Core.Bool.{Bool, true, false, cond}
+use mathlib.Core.Bool.{true, false}
 use mathlib.Core.List.{List, [], _∷_, _++_}
 use borrow.Author.Tests.{ltb-true}
 use mathlib.Core.Logic.{⊎-elim}
@@ -56,7 +56,10 @@ goes s live t fits = go (rules (get s) t) (step-keeps (get s) (live .sound) t)
         }
 
 pub outcome-read : (s : List ℕ) → Live s → (t : Step) → outcome (Read t) s ≡ rules (get s) t
-outcome-read s live t = ap (λ (u : Bool). cond u (rules (get s) t) (refused Unsound)) (sound-of s live)
+outcome-read s live t = rw (sound-of s live) refl
+
+pub outcome-unsound : (s : List ℕ) → soundBytes s ≡ false → (t : Step) → outcome (Read t) s ≡ refused Unsound
+outcome-unsound s bad t = rw bad refl
 
 -- a step leaves soundness as it was
 module _ (s : List ℕ) (bytes : Bytes s) where
@@ -66,7 +69,7 @@ module _ (s : List ℕ) (bytes : Bytes s) where
       ⊎-elim
       (λ (h : soundBytes s ≡ true). let live = live-of s bytes h in
       ap (λ (o : Outcome). soundBytes (bufferAfterOutcome s o)) (outcome-read s live t) ∙ sound-of _ (goes s live t (f t refl) .live) ∙ sym h)
-      (λ (h : soundBytes s ≡ false). ap (λ (u : Bool). soundBytes (bufferAfterOutcome s (cond u (rules (get s) t) (refused Unsound)))) h)
+      (λ (h : soundBytes s ≡ false). ap (λ (o : Outcome). soundBytes (bufferAfterOutcome s o)) (outcome-unsound s h t))
       (either (soundBytes s))
 
   pub sound-kept : (b : List ℕ) → soundBytes (stepAfter s b) ≡ soundBytes s

@@ -4,7 +4,7 @@ use native.Mathlib.Omega.{arith}
 use mathlib.Core.Path.{_≡_, refl, sym, ap, _∙_, subst}
 use mathlib.Core.Logic.{⊎-elim}
 use mathlib.Core.Bool.{Bool, true, false, cond}
-use mathlib.Core.List.{List, [], _∷_}
+use mathlib.Core.List.{List, [], _∷_, _++_, map, map-map}
 use lib.ListN.{length, drop}
 use Rattle.spec_base.specs.Number.{Bytes}
 use Rattle.spec_base.proofs.Tests.{either}
@@ -26,12 +26,16 @@ use Rattle.spec_rack.specs.RecordLayout.{recordLength, get, put}
 use Rattle.spec_rack.specs.Soundness.{soundBytes}
 use Rattle.spec_rack.proofs.GetPut.{boards-is, tokens-is, blocks-is}
 use Rattle.spec_rack.proofs.SoundRecord.{Live, live-of, sound-of, put-is, put-rest, put-live}
+use Rattle.spec_rack.proofs.RecordFormat.{live-format}
 use Rattle.spec_rack.specs.Opening.{openCheck, openReply}
 use Rattle.spec_rack.proofs.OpeningLaws.{passes, open-refused, open-get, open-length, open-behind, open-sound}
 use Rattle.spec_rack.specs.Entries.{bufferAfterOutcome, outcome, stepReply, stepAfter}
-use Rattle.spec_rack.specs.Lists.{runAll, after, framesFrom}
-use Rattle.spec_rack.proofs.ByteLists.{step-fits, outcome-read, runs}
-use Rattle.spec_rack.specs.Effects.{EveryRun, Steady, StepLeaves, EveryStep, EveryList, EveryOpening}
+use Rattle.spec_rack.specs.Lists.{runAll, repliesOf, after, replies, framesFrom}
+use Rattle.spec_rack.proofs.ByteLists.{step-fits, outcome-read, outcome-unsound, runs}
+use Rattle.spec_rack.specs.declared.Lettered.the-variants as Lettered
+use Rattle.spec_rack.specs.Letter.{letter, letterReply}
+use Rattle.spec_rack.specs.Results.{packedReply}
+use Rattle.spec_rack.specs.Effects.{EveryRun, Steady, StepLeaves, EveryStep, EveryList, unsoundReply, EveryUnsound, EveryOpening}
 
 not-both : {A : Type 0} {a : Answer} {n : Refusal} → Accepted a ≡ Refused n → A
 not-both e = let z : _≡_ {A = ℕ} 0 1 = cc in absurd (omega arith)
@@ -39,7 +43,7 @@ not-both e = let z : _≡_ {A = ℕ} 0 1 = cc in absurd (omega arith)
 -- ---- a buffer that stays, and one change after another
 
 steady-same : (s : List ℕ) → Steady s s
-steady-same s = record { rest = record { size = refl; behind = refl }; boards = refl; blocks = refl; tokens = refl; sound = refl }
+steady-same s = record { rest = record { size = refl; behind = refl }; boards = refl; blocks = refl; tokens = refl; format = refl; sound = refl }
 
 steady-then : (s s′ s″ : List ℕ) → Steady s s′ → Steady s′ s″ → Steady s s″
 steady-then s s′ s″ p q =
@@ -52,6 +56,7 @@ steady-then s s′ s″ p q =
       boards = q .boards ∙ p .boards;
       blocks = q .blocks ∙ p .blocks;
       tokens = q .tokens ∙ p .tokens;
+      format = q .format ∙ p .format;
       sound = q .sound ∙ p .sound;
     }
 
@@ -71,6 +76,9 @@ module _ (s bytes : List ℕ) where
     is : get (put r s) ≡ r
     is = put-is s live r (k .sound) (k .fits fit (live .fits)) (k .count)
 
+    live-after : Live (put r s)
+    live-after = put-live s live r (k .sound) (k .fits fit (live .fits)) (k .count)
+
     put-steady : Steady s (put r s)
     put-steady =
         record {
@@ -78,7 +86,8 @@ module _ (s bytes : List ℕ) where
           boards = sym (boards-is (put r s)) ∙ ap (λ (q : Rack). q .boards) is ∙ k .boards ∙ boards-is s;
           blocks = sym (blocks-is (put r s)) ∙ ap (λ (q : Rack). length (q .blocks)) is ∙ k .count ∙ blocks-is s;
           tokens = sym (tokens-is (put r s)) ∙ ap (λ (q : Rack). q .tokens) is ∙ k .tokens ∙ tokens-is s;
-          sound = sound-of (put r s) (put-live s live r (k .sound) (k .fits fit (live .fits)) (k .count)) ∙ sym (sound-of s live);
+          format = live-format (put r s) live-after ∙ sym (live-format s live);
+          sound = sound-of (put r s) live-after ∙ sym (sound-of s live);
         }
 
     written : stepReply s bytes ≡ Accepted a → stepAfter s bytes ≡ put r s → StepLeaves s bytes
@@ -106,17 +115,17 @@ module _ (s bytes : List ℕ) where
       (ap (λ (k : Reading). reply (outcome k s)) e ∙ ap reply (outcome-read s live t))
       (ap (λ (k : Reading). bufferAfterOutcome s (outcome k s)) e ∙ ap (bufferAfterOutcome s) (outcome-read s live t)))
       (λ (bad : soundBytes s ≡ false). unchanged Unsound
-      (ap (λ (k : Reading). reply (outcome k s)) e ∙ ap (λ (u : Bool). reply (cond u (rules (get s) t) (refused Unsound))) bad)
-      (ap (λ (k : Reading). bufferAfterOutcome s (outcome k s)) e ∙ ap (λ (u : Bool). bufferAfterOutcome s (cond u (rules (get s) t) (refused Unsound))) bad))
+      (ap (λ (k : Reading). reply (outcome k s)) e ∙ ap reply (outcome-unsound s bad t))
+      (ap (λ (k : Reading). bufferAfterOutcome s (outcome k s)) e ∙ ap (bufferAfterOutcome s) (outcome-unsound s bad t)))
       (either (soundBytes s))
 
   -- on a buffer without a sound record
-  by-unsound : soundBytes s ≡ false → (k : Reading) → bufferAfterOutcome s (outcome k s) ≡ s
-  by-unsound bad (NoStep n) = refl
-  by-unsound bad (Read t) = ap (λ (u : Bool). bufferAfterOutcome s (cond u (rules (get s) t) (refused Unsound))) bad
+  by-unsound : soundBytes s ≡ false → (k : Reading) → (reply (outcome k s) ≡ unsoundReply k) × (bufferAfterOutcome s (outcome k s) ≡ s)
+  by-unsound bad (NoStep n) = (refl, refl)
+  by-unsound bad (Read t) = (ap reply (outcome-unsound s bad t), ap (bufferAfterOutcome s) (outcome-unsound s bad t))
 
-  step-unsound : soundBytes s ≡ false → stepAfter s bytes ≡ s
-  unfolding stepAfter
+  step-unsound : soundBytes s ≡ false → (stepReply s bytes ≡ unsoundReply (readRecord bytes)) × (stepAfter s bytes ≡ s)
+  unfolding stepReply stepAfter
   step-unsound bad = by-unsound bad (readRecord bytes)
 
 pub every-step : EveryStep
@@ -130,25 +139,44 @@ list-steady [] s live = steady-same s
 list-steady (b ∷ bs) s live =
     steady-then s (stepAfter s b) (after (stepAfter s b) bs) (every-step s b (live .wellFormed .bytes) .steady) (list-steady bs (stepAfter s b) (runs (b ∷ []) s live .live))
 
-list-unsound : (steps : List (List ℕ)) (s : List ℕ) → soundBytes s ≡ false → after s steps ≡ s
-unfolding runAll
-list-unsound [] s bad = refl
-list-unsound (b ∷ bs) s bad = ap (λ (q : List ℕ). after q bs) (step-unsound s b bad) ∙ list-unsound bs s bad
+list-unsound : (steps : List (List ℕ)) (s : List ℕ) → soundBytes s ≡ false → (replies s steps ≡ map (λ bytes. unsoundReply (readRecord bytes)) steps) × (after s steps ≡ s)
+unfolding runAll repliesOf
+list-unsound [] s bad = (refl, refl)
+list-unsound (b ∷ bs) s bad =
+    let one = step-unsound s b bad in
+    let rest = list-unsound bs s bad in
+    ((λ i. one .0 i ∷ (ap (λ (q : List ℕ). replies q bs) (one .1) ∙ rest .0) i), ap (λ (q : List ℕ). after q bs) (one .1) ∙ rest .1)
+
+pub every-unsound : EveryUnsound
+unfolding letterReply
+every-unsound s bad =
+    record {
+      step = λ bytes. step-unsound s bytes bad;
+      list = λ steps. list-unsound steps s bad;
+      letter = λ c b. ap (λ (u : Bool). cond u (letter (get s) c b) (Lettered.Refused Unsound)) bad;
+    }
 
 pub every-list : EveryList
 every-list s steps h =
     record {
       steady =
           ⊎-elim (λ (ok : soundBytes s ≡ true). list-steady steps s (live-of s h ok))
-          (λ (bad : soundBytes s ≡ false). subst (Steady s) (sym (list-unsound steps s bad)) (steady-same s)) (either (soundBytes s));
+          (λ (bad : soundBytes s ≡ false). subst (Steady s) (sym (list-unsound steps s bad .1)) (steady-same s)) (either (soundBytes s));
       if-sound = λ ok. runs steps s (live-of s h ok) .rack;
-      if-unsound = list-unsound steps s;
     }
 
 pub every-run : EveryRun
 every-run rec list at out made rec′ at′ out′ h ran =
-    let l = every-list rec (framesFrom list at out) h in
-    (subst (Steady rec) (sym (ran .buffer)) (l .steady), ((λ ok. ap get (ran .buffer) ∙ l .if-sound ok), (λ bad. ran .buffer ∙ l .if-unsound bad)))
+    let steps : List (List ℕ) = framesFrom list at out in
+    let l = every-list rec steps h in
+    record {
+      steady = subst (Steady rec) (sym (ran .buffer)) (l .steady);
+      if-sound = λ ok. ap get (ran .buffer) ∙ l .if-sound ok;
+      if-unsound = λ bad. ran .buffer ∙ list-unsound steps rec bad .1;
+      unsound-replies = λ bad.
+          ran .replies
+          ∙ ap (λ (l : List ℕ). l ++ drop (length steps) out) (ap (map packedReply) (list-unsound steps rec bad .0) ∙ map-map packedReply (λ bytes. unsoundReply (readRecord bytes)) steps);
+    }
 
 -- ---- an opening
 

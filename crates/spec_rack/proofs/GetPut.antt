@@ -20,19 +20,16 @@ use Rattle.spec_base.proofs.Places.{Place, within, first, second, item, write-b
 use Rattle.spec_base.proofs.Padded.{room-lawful, padded-place}
 use Rattle.spec_base.proofs.Lanes.{zip-length, zip-at, map-set, length-lane, Spread, place-iso, spread-place, spread-within, spread-as, spread-iso, spread-pair, over-both, spread-zipped, spread-byte, spread-flag, spread-each, first-set, over-one, over-two, over-three, over-four}
 use Rattle.spec_arbiter.specs.Claims.{Claims}
-use Rattle.spec_rack.specs.RecordLayout.{claims, headerSize, blockSize, blockOffset, dirtyOffset, wordsOffset, wordsSize, Tokens, TokenBytes, toTokens, fromTokens, dirtyHasOwner, byteLanes, lanesAt, setTokenBytes, setLanes, words, message, tokenLanes, toCell, cellTokens, toBlock, fromBlock, block, header, RackFields, rackLayout, recordLength, toRack, fromRack, layoutOf, get, put, blocksIn, boardsIn, claimsOffset, claimsRoom, messagesIn, tokensIn, meshRoom, laneSize}
+use Rattle.spec_rack.specs.RecordLayout.{claims, headerSize, blockSize, blockOffset, dirtyOffset, wordsOffset, wordsSize, Tokens, TokenBytes, toTokens, fromTokens, dirtyHasOwner, byteLanes, lanesAt, setTokenBytes, setLanes, words, message, tokenLanes, toCell, cellTokens, toBlock, fromBlock, block, headerBytes, header, RackFields, rackLayout, recordLength, toRack, fromRack, layoutOf, get, put, blocksIn, boardsIn, claimsOffset, claimsRoom, messagesIn, tokensIn, meshRoom, laneSize}
 use Rattle.spec_rack.specs.declared.Message.{Message}
 use Rattle.spec_rack.specs.Rack.{Cell, Block, Rack, zeros, noCell, noBlock, blockAt}
 use Rattle.spec_rack.specs.Rules.{changed}
 use Rattle.spec_rack.specs.Soundness.{wellFormedRecord}
-use Rattle.spec_rack.proofs.LayoutParts.{noTokens, WordsFit, ClaimsFit, MessageFits, BlockFits, HeaderFits, words-size, lanes-size, token-bytes-back, claims-size, message-size, block-size, header-size, words-lawful, message-lawful, lanes-lawful, claims-lawful, blockTokens, blockClaims, blockWords, block-tokens-lawful, block-claims-lawful, block-words-lawful, block-lawful, header-lawful, cells-tokens, cells-words}
+use Rattle.spec_rack.proofs.LayoutParts.{noTokens, WordsFit, ClaimsFit, MessageFits, BlockFits, HeaderFits, words-size, lanes-size, token-bytes-back, claims-size, message-size, block-size, header-size, words-lawful, message-lawful, formatted-read, formatted-place, lanes-lawful, claims-lawful, blockTokens, blockClaims, blockWords, block-tokens-lawful, block-claims-lawful, block-words-lawful, block-lawful, header-bytes-lawful, header-lawful, cells-tokens, cells-words}
 
 -- ---- N, B, T and the count of messages
 
-abbrev first-four : Layout (ℕ × (ℕ × (ℕ × ℕ)))
-first-four = pair byte (pair byte (pair byte byte))
-
-four-read : (s : List ℕ) → first-four .read (take 4 s) ≡ (boardsIn s, (blocksIn s, (tokensIn s, messagesIn s)))
+four-read : (s : List ℕ) → headerBytes .read (take 4 s) ≡ (boardsIn s, (blocksIn s, (tokensIn s, messagesIn s)))
 four-read [] = refl
 four-read (n ∷ []) = refl
 four-read (n ∷ b ∷ []) = refl
@@ -41,22 +38,21 @@ four-read (n ∷ b ∷ t ∷ m ∷ s) = refl
 
 pub header-read : (s : List ℕ) → header .read (take (header .size) s) ≡ (boardsIn s, (blocksIn s, (tokensIn s, messagesIn s)))
 unfolding header
-header-read s = ap (first-four .read) (take-take 4 headerSize s (omega arith)) ∙ four-read s
+header-read s = formatted-read headerBytes header-bytes-lawful (omega arith) s ∙ four-read s
 
 -- the count has a place of its own
-pub count-write : (s : List ℕ) (m : ℕ) → Bytes s → headerSize ≤ length s
+pub count-write : (s : List ℕ) (m : ℕ) → headerSize ≤ length s → Stands header (take (header .size) s)
     → header .write (boardsIn s, (blocksIn s, (tokensIn s, m))) (take (header .size) s) ≡ set (take (header .size) s) 3 m
 unfolding header
-count-write s m h l =
+count-write s m l h =
     let lt : length (take headerSize s) ≡ headerSize = length-take-le headerSize s l in
-    let four-law = pair-lawful byte (pair byte (pair byte byte)) byte-lawful (pair-lawful byte (pair byte byte) byte-lawful (pair-lawful byte byte byte-lawful byte-lawful)) in
     let three-law = pair-lawful byte (pair byte byte) byte-lawful (pair-lawful byte byte byte-lawful byte-lawful) in
     let place =
-    within (padded-place room (λ k. refl) room-lawful headerSize first-four four-law (omega arith))
+    within (formatted-place headerBytes header-bytes-lawful (omega arith))
     (within (second byte (pair byte (pair byte byte)) byte-lawful three-law)
     (within (second byte (pair byte byte) byte-lawful (pair-lawful byte byte byte-lawful byte-lawful)) (second byte byte byte-lawful byte-lawful))) in
     ap (λ (v : ℕ × (ℕ × (ℕ × ℕ))). header .write (v .0, (v .1 .0, (v .1 .1 .0, m))) (take headerSize s)) (sym (header-read s))
-    ∙ place .changes m (take headerSize s) (record { bytes = bytes-take headerSize s h; wellFormed = refl; room = le-of-eq (sym lt) })
+    ∙ place .changes m (take headerSize s) h
     ∙ sym (write-byte 3 m (take headerSize s) (omega arith))
 
 -- ---- the whole
@@ -442,6 +438,16 @@ module _ (s : List ℕ) where
 
     pub stands : Stands (layoutOf s) s
     stands = record { bytes = ok .bytes; wellFormed = ok .wellFormed; room = rw (figures-size (boardsIn s) (blocksIn s) (messagesIn s)) (ok .room) }
+
+    -- the header by itself
+    pub header-stands : Stands header (take (header .size) s)
+    unfolding rackLayout
+    header-stands =
+        record {
+          bytes = bytes-take (header .size) s (ok .bytes);
+          wellFormed = and-l (header .wellFormed (take (header .size) s)) _ (ok .wellFormed);
+          room = le-of-eq (sym (length-take-le (header .size) s (omega (arith, ok .room, header-size))));
+        }
 
     -- to write the rack that is there changes nothing
     pub put-get : put (get s) s ≡ s

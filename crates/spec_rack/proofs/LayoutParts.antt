@@ -3,17 +3,21 @@ use Prim.Native.Nat.{ℕ, suc, _^_, _≤_, _<_, suc-le-suc}
 use native.Mathlib.Nat.{le-refl}
 use native.Mathlib.Omega.{arith}
 use mathlib.Core.Path.{_≡_, refl, sym, ap, _∙_}
-use mathlib.Core.Bool.{Bool, true, false}
+use mathlib.Core.Bool.{Bool, true, false, _&&_}
 use mathlib.Core.List.{List, [], _∷_, map}
-use lib.ListN.{length, getD, drop, length-map}
+use lib.Dec.{eqb}
+use lib.ListN.{length, getD, take, drop, length-map}
+use lib.Seq.{take-take}
 use Rattle.spec_base.specs.Folds.{implies, All, zip}
-use Rattle.spec_base.specs.Layout.{Layout, byte, flag, big, pair, items, room, zeroed, padded, lane, zipped}
+use Rattle.spec_base.specs.Layout.{Layout, byte, flag, big, pair, items, room, zeroed, constant, padded, lane, zipped}
 use Rattle.spec_base.proofs.Laws.{Lawful, byte-lawful, flag-lawful, big-lawful, pair-lawful, iso-lawful, where-lawful, items-lawful, Items}
 use Rattle.spec_base.proofs.Copies.{Full, full-byte, full-flag, full-big, full-pair, full-iso, full-where, full-items}
-use Rattle.spec_base.proofs.Padded.{room-lawful, zeroed-lawful, full-zeroed, padded-lawful, full-padded}
-use Rattle.spec_base.proofs.Lanes.{lane-lawful, zipped-lawful, each-lawful, zip-length, all-zip, all-mapped}
+use Rattle.spec_base.proofs.Padded.{Nothing, room-lawful, zeroed-lawful, full-zeroed, constant-lawful, padded-lawful, padded-place, full-padded, formed-room}
+use Rattle.spec_base.proofs.Forms.{formed-pair}
+use Rattle.spec_base.proofs.Places.{Place, within, first}
+use Rattle.spec_base.proofs.Lanes.{lane-lawful, zipped-lawful, each-lawful, zip-length, all-zip, all-mapped, place-iso}
 use Rattle.spec_arbiter.specs.Claims.{Claims}
-use Rattle.spec_rack.specs.RecordLayout.{barringSets, toClaims, fromClaims, claims, Tokens, dirty, ownerOf, TokenBytes, toTokens, fromTokens, dirtyHasOwner, tokenBytes, byteLanes, tokens, words, Endpoints, endpoints, messageHeader, toMessage, fromMessage, message, tokenLanes, toCell, cellTokens, toBlock, fromBlock, block, header, blockSize, claimsOffset, claimsRoom, claimsSize, lanesSize, messageSize, headerSize, laneSize}
+use Rattle.spec_rack.specs.RecordLayout.{barringSets, toClaims, fromClaims, claims, Tokens, dirty, ownerOf, TokenBytes, toTokens, fromTokens, dirtyHasOwner, tokenBytes, byteLanes, tokens, words, Endpoints, endpoints, messageHeader, toMessage, fromMessage, message, tokenLanes, toCell, cellTokens, toBlock, fromBlock, block, headerBytes, formatted, header, formatOffset, formatMagic, formatIn, blockSize, claimsOffset, claimsRoom, claimsSize, lanesSize, messageSize, headerSize, laneSize}
 use Rattle.spec_rack.specs.declared.Owner.{Owner}
 use Rattle.spec_rack.specs.declared.Owner.the-variants.{Away, Dirty, Clean}
 use Rattle.spec_rack.specs.declared.Message.{Message}
@@ -132,11 +136,43 @@ unfolding message
 message-lawful =
     iso-lawful (pair messageHeader words) toMessage fromMessage (pair-lawful messageHeader words heading-lawful words-lawful) (λ a o. o) (λ b o. o) (λ a o. refl) (λ b o. refl)
 
+-- a header that begins with a value: its laws, where the value stands, and its form, which is the value's and the format
+module _ {A : Type 0} {P : A → Type 0} (L : Layout A) (λL : Lawful L P) (fits : L .size ≤ formatOffset) where
+  pub front-lawful : Lawful (padded room formatOffset L) P
+  front-lawful = padded-lawful room (λ k. refl) room-lawful formatOffset L λL fits
+
+  format-lawful : Lawful (constant 4 formatMagic) Nothing
+  format-lawful = constant-lawful 4 formatMagic (omega arith)
+
+  pub formatted-lawful : Lawful (formatted L) P
+  formatted-lawful =
+      iso-lawful (pair (padded room formatOffset L) (constant 4 formatMagic)) (λ v. v .0) (λ v. (v, tt)) (pair-lawful _ _ front-lawful format-lawful)
+      (λ a o. o .0) (λ b o. (o, tt)) (λ a o. refl) (λ b o. refl)
+
+  pub formatted-place : Place (formatted L) L 0 (λ a. a) (λ v a. v)
+  formatted-place =
+      place-iso (within (first (padded room formatOffset L) (constant 4 formatMagic) front-lawful format-lawful) (padded-place room (λ k. refl) room-lawful formatOffset L λL fits))
+      (λ v. v .0) (λ v. (v, tt)) (λ a. a) (λ v a. v) (λ s. refl) (λ v s. refl)
+
+  pub formatted-read : (s : List ℕ) → formatted L .read (take headerSize s) ≡ L .read (take (L .size) s)
+  formatted-read s = ap (L .read) (take-take (L .size) formatOffset (take headerSize s) fits ∙ take-take (L .size) headerSize s (omega (arith, fits)))
+
+  pub formatted-form : (s : List ℕ) → formatted L .wellFormed (take headerSize s) ≡ (L .wellFormed (take (L .size) s) && eqb (formatIn s) formatMagic)
+  formatted-form s =
+      formed-pair (padded room formatOffset L) (constant 4 formatMagic) 0 s
+      ∙ ap (λ (w : Bool). w && eqb (formatIn s) formatMagic) (formed-room formatOffset L fits 0 s)
+
+pub header-bytes-lawful : Lawful headerBytes HeaderFits
+header-bytes-lawful = pair-lawful _ _ byte-lawful (pair-lawful _ _ byte-lawful (pair-lawful _ _ byte-lawful byte-lawful))
+
+-- the form of the header is the format
+pub header-form : (s : List ℕ) → header .wellFormed (take headerSize s) ≡ eqb (formatIn s) formatMagic
+unfolding header
+header-form s = formatted-form headerBytes header-bytes-lawful (omega arith) s
+
 pub header-lawful : Lawful header HeaderFits
 unfolding header
-header-lawful =
-    padded-lawful room (λ k. refl) room-lawful headerSize (pair byte (pair byte (pair byte byte)))
-    (pair-lawful _ _ byte-lawful (pair-lawful _ _ byte-lawful (pair-lawful _ _ byte-lawful byte-lawful))) (omega arith)
+header-lawful = formatted-lawful headerBytes header-bytes-lawful (omega arith)
 
 -- ---- cells from their tokens and their words
 

@@ -72,6 +72,8 @@ unfolding overwrite barringSets claims words messageHeader message byteLanes tok
 offsets =
     record {
       counts = refl;
+      format-bytes = refl;
+      format-number = refl;
       message = λ c k b p o d. refl;
       messages = refl;
       message-words = refl;

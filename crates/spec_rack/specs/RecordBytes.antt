@@ -1,12 +1,12 @@
 -- Document 01, "The rack", with document 02, No. 2: two records byte for byte, written by hand from the tables of docs/RECORD.md, beside the racks that they
 -- hold. The equations hold `put`, `get` and `soundBytes` to those tables. Between them the records have a clean and a dirty owner, each in a block and in a
 -- message.
-use Prim.Native.Nat.{ℕ, _+_, _*_}
+use Prim.Native.Nat.{ℕ, _+_, _*_, _-_}
 use mathlib.Core.Path.{_≡_}
 use mathlib.Core.Bool.{Bool, true, false}
 use mathlib.Core.List.{List, [], _∷_, _++_, map}
 use lib.ListN.{length, getD, set, take, replicate}
-use Rattle.spec_base.specs.Folds.{toℕ}
+use Rattle.spec_base.specs.Folds.{toℕ, zip}
 use Rattle.spec_base.specs.Layout.{slice, big}
 use Rattle.spec_wire.specs.declared.Step.the-variants.{Store, Send, Deliver, Raise, Lower}
 use Rattle.spec_rack.specs.declared.Owner.{Owner}
@@ -26,6 +26,10 @@ none n = replicate n 0
 abbrev pub room : ℕ → List ℕ
 room n = replicate n 0xAA
 
+-- the format: "HYL" in ASCII, and the number of the layout
+abbrev pub format : List ℕ
+format = 0x48 ∷ 0x59 ∷ 0x4C ∷ 1 ∷ []
+
 -- ---- (2, 1, 3): board 1 has the owner, dirty, board 2 a plain token with data; a plain token with data is on its way home; board 2 waits, and bars board 1
 
 abbrev pub small : Rack
@@ -38,9 +42,9 @@ small =
 abbrev pub smallWords : List ℕ
 smallWords = 0x01 ∷ 0x02 ∷ 0x03 ∷ 0x04 ∷ none 24 ++ 0x0A ∷ 0x0B ∷ 0x0C ∷ 0x0D ∷ []
 
--- header: N, B, T, the count of messages
+-- header: N, B, T, the count of messages, room, the format
 abbrev pub smallHeader : List ℕ
-smallHeader = 2 ∷ 1 ∷ 3 ∷ 1 ∷ room 28
+smallHeader = 2 ∷ 1 ∷ 3 ∷ 1 ∷ room 24 ++ format
 
 -- message 0: sender, target, block, plain, owner, data, mark, 0; its words; then the places of 63 more
 abbrev pub smallMesh : List ℕ
@@ -76,7 +80,7 @@ abbrev pub largeWords : List ℕ
 largeWords = none 8 ++ 0xFF ∷ 0xFE ∷ 0xFD ∷ 0xFC ∷ none 20
 
 abbrev pub largeHeader : List ℕ
-largeHeader = 15 ∷ 3 ∷ 64 ∷ 4 ∷ room 28
+largeHeader = 15 ∷ 3 ∷ 64 ∷ 4 ∷ room 24 ++ format
 
 -- message 0 has the owner, its mark and data; message 1 plain tokens without data; message 2 the owner, without a mark and without data; message 3 plain tokens
 -- and data, eight words 0
@@ -118,13 +122,13 @@ pub record RecordBytes : Type 0 where
 
 abbrev pub openedSmall : List ℕ
 openedSmall =
-    (2 ∷ 1 ∷ 3 ∷ 0 ∷ room 28) ++ room (64 * 40) ++ (2 ∷ none 15) ++ (1 ∷ none 15) ++ (1 ∷ none 15) ++ none 16 ++ room 16 ++ none 34 ++ room 6
+    (2 ∷ 1 ∷ 3 ∷ 0 ∷ room 24 ++ format) ++ room (64 * 40) ++ (2 ∷ none 15) ++ (1 ∷ none 15) ++ (1 ∷ none 15) ++ none 16 ++ room 16 ++ none 34 ++ room 6
     ++ none (3 * 32) ++ room (13 * 32) ++ room 6
 
 -- `small` after its message is delivered: home has a plain token, is valid and has the words; the message's bytes are left where they were
 abbrev pub deliveredSmall : List ℕ
 deliveredSmall =
-    (2 ∷ 1 ∷ 3 ∷ 0 ∷ room 28) ++ smallMesh ++ (1 ∷ 0 ∷ 1 ∷ none 13) ++ (0 ∷ 1 ∷ 0 ∷ none 13) ++ (1 ∷ 1 ∷ 1 ∷ none 13) ++ (0 ∷ 1 ∷ 0 ∷ none 13) ++ room 16
+    (2 ∷ 1 ∷ 3 ∷ 0 ∷ room 24 ++ format) ++ smallMesh ++ (1 ∷ 0 ∷ 1 ∷ none 13) ++ (0 ∷ 1 ∷ 0 ∷ none 13) ++ (1 ∷ 1 ∷ 1 ∷ none 13) ++ (0 ∷ 1 ∷ 0 ∷ none 13) ++ room 16
     ++ smallSets ++ smallWords ++ smallWords ++ smallWords ++ room (13 * 32) ++ room 6
 
 pub record BytesAfter : Type 0 where
@@ -148,16 +152,29 @@ pub record AlteredBytes : Type 0 where
       map (λ p. soundBytes (altered smallRecord (p ∷ [])))
       ((block + 50, 1) ∷ (block + 3, 1) ∷ (block + 51, 1) ∷ (32 + 6, 1) ∷ (32 + 7, 1) ∷ (block + 81, 1) ∷ (block + 87, 1) ∷ (block + 33, 2) ∷ [])
       ≡ replicate 8 false
-  -- so does a byte that is lacking
+  -- another byte at each place of the format, as it would be in a record of another layout: a letter of the name; the number before, the next, the last
+  pub another-format :
+      map (λ p. soundBytes (altered smallRecord (p ∷ [])))
+      ((28, 0x68) ∷ (29, 0x58) ∷ (30, 0x00) ∷ (31, layout.formatNumber - 1) ∷ (31, layout.formatNumber + 1) ∷ (31, 255) ∷ [])
+      ≡ replicate 6 false
+  -- no format: low byte first; bytes that were cleared; bytes that nobody wrote
+  pub no-format :
+      map (λ bytes. soundBytes (altered smallRecord (zip (28 ∷ 29 ∷ 30 ∷ 31 ∷ []) bytes)))
+      ((layout.formatNumber ∷ 0x4C ∷ 0x59 ∷ 0x48 ∷ []) ∷ none 4 ∷ room 4 ∷ [])
+      ≡ replicate 3 false
+  -- a byte that is lacking
   pub short : soundBytes (take 3223 smallRecord) ≡ false
-  -- these do not: room in the header, behind the lanes and behind the sets; a message past the count; a word of a component above N
-  pub sound : soundBytes (altered smallRecord ((4, 0x55) ∷ (72, 0x55) ∷ (block + 64, 0x55) ∷ (block + 114, 0x55) ∷ (block + 120 + 3 * 32, 0x55) ∷ [])) ≡ true
+  -- these do not: the first and the last room in the header, room behind the lanes and behind the sets; a message past the count; a word of a component above N
+  pub sound : soundBytes (altered smallRecord ((4, 0x55) ∷ (27, 0x55) ∷ (72, 0x55) ∷ (block + 64, 0x55) ∷ (block + 114, 0x55) ∷ (block + 120 + 3 * 32, 0x55) ∷ [])) ≡ true
 
 -- ---- the offsets and sizes of RecordLayout.antt, those too that its layouts do not use: each is where the layout has that figure
 
 pub record Offsets : Type 0 where
   -- N, B, T and the count of messages
   pub counts : map (λ (count : List ℕ → ℕ). count largeRecord) (layout.boardsIn ∷ layout.blocksIn ∷ layout.tokensIn ∷ layout.messagesIn ∷ []) ≡ 15 ∷ 3 ∷ 64 ∷ 4 ∷ []
+  -- the format, as bytes and as one number
+  pub format-bytes : slice layout.formatOffset 4 largeRecord ≡ format
+  pub format-number : layout.formatIn largeRecord ≡ layout.formatMagic
   -- a message of any header
   pub message : (c k b p : ℕ) (o : Owner) (d : Bool)
       → map (λ at. getD (layout.message .write (record { header = record { sender = c; target = k; block = b; plain = p; owner = o; «data» = d }; words = replicate 8 0x01010101 }) (room 40)) at 1)

@@ -64,7 +64,15 @@ pub const TOKEN_COUNT_OFFSET: usize = 2;
 
 pub const MESSAGE_COUNT_OFFSET: usize = 3;
 
+pub const FORMAT_OFFSET: usize = 28;
+
 pub const HEADER_SIZE: usize = 32;
+
+// The number of this layout. A landing that gives a byte of the record another meaning raises it by one.
+pub const FORMAT_NUMBER: u32 = 1;
+
+// The format as one number: "HYL" in ASCII, then the number of the layout.
+pub const FORMAT_MAGIC: u32 = 0x48594C00 + FORMAT_NUMBER;
 
 // A message.
 pub const SENDER_OFFSET: usize = 0;

@@ -39,7 +39,7 @@ use Rattle.spec_rack.proofs.StepPreservation.{inN, inB}
 use Rattle.spec_rack.proofs.GetPut.{put-get}
 use Rattle.spec_rack.proofs.SoundRecord.{live-of}
 use Rattle.spec_rack.proofs.ByteLists.{runs}
-use Rattle.spec_rack.proofs.Effects.{every-list}
+use Rattle.spec_rack.proofs.Effects.{every-unsound}
 
 -- ---- one load, with the line of home and without it
 
@@ -218,7 +218,7 @@ unfolding runAll
 bytes-kept s bytes ok =
     ⊎-elim
     (λ (sound : soundBytes s ≡ true). runs (bytes ∷ []) s (live-of s ok sound) .live .wellFormed .bytes)
-    (λ (bad : soundBytes s ≡ false). subst Bytes (sym (every-list s (bytes ∷ []) ok .if-unsound bad)) ok)
+    (λ (bad : soundBytes s ≡ false). subst Bytes (sym (every-unsound s bad .step bytes .1)) ok)
     (either (soundBytes s))
 
 pub same-on-bytes : SameOnBytes
