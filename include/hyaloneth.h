@@ -88,15 +88,20 @@ static inline uint32_t hyl_block_of(uint64_t result)
 /* The longest record, in bytes: that of 32 blocks. */
 #define HYL_RECORD_LONGEST 22816
 
+/* The format of a record: the number of its layout, which stands in its bytes. It rises by one with every version that gives a byte of the record
+ * another meaning. hyl_open writes it, whatever the buffer held; no other call does. With another format, or none, a record is not sound: hyl_step,
+ * hyl_run and hyl_letter refuse it with HYL_UNSOUND, a torn step with HYL_TORN. hyl_view_format of hyaloneth_view.h tells which it has.
+ *
+ * Versions before format 1 wrote none, and cleared none. A buffer that held a record of this format may still have its bytes after such a version has
+ * opened a record there. Clear the buffer before, or that record may pass for a sound one. */
+#define HYL_RECORD_FORMAT 1
+
 /* How many bytes the record of a rack of `blocks` blocks takes: done with the count, or refused with HYL_SIZE where blocks is not 1 to 32. */
 uint64_t hyl_record_len(uint32_t blocks);
 
 /* Opens a record at the front of a buffer: home holds all tokens of each block, valid, the owners are clean, and all words are 0. What the buffer
  * held before does not matter, and its bytes past the record stay as they are. So do room, the words of components above N and the places of the
  * messages: two records with the same figures may differ there.
- *
- * A record that was opened before owners had marks is not to be used any longer: open a new one. The marks of components stand where it has room, in
- * bytes that nobody wrote; those of messages are 0 there. It may be refused with HYL_UNSOUND, or be sound with marks that are wrong.
  *   rec, rec_len  the buffer, and how many bytes it has
  *   boards        N, 1 to 15
  *   blocks        B, 1 to 32

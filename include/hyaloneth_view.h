@@ -5,7 +5,7 @@
  * Duties of the caller:
  *   - `rec` points to a sound record, all bytes of it. A record is sound once hyl_open was done, and hyl_step and hyl_run keep it so, whatever they
  *     are given. For bytes from elsewhere ask hyl_letter(rec, rec_len, 1, 0): every sound record has board 1 and block 0, so the answer is a
- *     letter where the record is sound and the refusal HYL_UNSOUND where it is not;
+ *     letter where the record is sound and the refusal HYL_UNSOUND where it is not. hyl_view_format alone takes any bytes;
  *   - each index is in the range that its function names;
  *   - nothing writes the record during the call.
  * The functions check none of this. On a record that is not sound they give what stands in its bytes, which may be out of a figure's range. With an
@@ -28,6 +28,11 @@ extern "C" {
 #define HYL_VIEW_BLOCK_COUNT_AT 1   /* B */
 #define HYL_VIEW_TOKEN_COUNT_AT 2   /* T */
 #define HYL_VIEW_MESSAGE_COUNT_AT 3 /* how many messages are in flight */
+#define HYL_VIEW_FORMAT_AT 28       /* the format, four bytes: a name of three, and the number of the layout */
+
+/* The format's name, "HYL" in ASCII, and the number of this layout, which is HYL_RECORD_FORMAT of hyaloneth.h. */
+#define HYL_VIEW_FORMAT_NAME 0x48594C
+#define HYL_VIEW_FORMAT 1
 
 /* The messages stand one after the other, the oldest first. In a message: */
 #define HYL_VIEW_MESSAGES_AT 32
@@ -79,6 +84,18 @@ static inline uint32_t hyl_view_read_set(const uint8_t *set)
 static inline uint32_t hyl_view_read_word(const uint8_t *word)
 {
     return (uint32_t)word[0] << 24 | (uint32_t)word[1] << 16 | (uint32_t)word[2] << 8 | word[3];
+}
+
+/* ---- The format */
+
+/* The number of the layout that a record has; 0 where it has none. Here `rec` need not be sound: it points to any 32 bytes or more. A record with
+ * another number than HYL_VIEW_FORMAT is not sound, and the other functions of this header are not for it. One with that number may be unsound all the
+ * same. */
+static inline uint32_t hyl_view_format(const uint8_t *rec)
+{
+    uint32_t format = hyl_view_read_word(rec + HYL_VIEW_FORMAT_AT);
+
+    return format >> 8 == HYL_VIEW_FORMAT_NAME ? format & 0xff : 0;
 }
 
 /* ---- The rack */

@@ -2,6 +2,8 @@
 //! docs/RECORD.md. It prints what the program of crate `test_damage` prints; the two are compared.
 
 // The layout of docs/RECORD.md: where messages and blocks start, and the figures within them.
+const FORMAT: usize = 28;
+const FORMAT_BYTES: &[u8] = b"HYL\x01";
 const MESSAGES: usize = 32;
 const MESSAGE_SIZE: usize = 40;
 const MESSAGE_WORDS: usize = 8;
@@ -75,12 +77,12 @@ fn barring_set(rec: &[u8], block: usize, board: usize) -> u32 {
 
 /// "Sound means", sentence by sentence.
 fn sound(rec: &[u8]) -> bool {
-    if rec.len() < 4 {
+    if rec.len() < MESSAGES {
         return false;
     }
     let (n, b, t, m) = (usize::from(rec[0]), usize::from(rec[1]), u32::from(rec[2]), usize::from(rec[3]));
     let sizes = (1..=15).contains(&n) && (1..=32).contains(&b) && n as u32 <= t && t <= 64;
-    if !sizes || m > 64 || rec.len() < BLOCKS + BLOCK_SIZE * b {
+    if !sizes || m > 64 || rec.len() < BLOCKS + BLOCK_SIZE * b || &rec[FORMAT..MESSAGES] != FORMAT_BYTES {
         return false;
     }
     let messages: Vec<Message> = (0..m).map(|i| message(rec, i)).collect();
@@ -144,6 +146,7 @@ fn damaged(rec: &mut [u8]) -> u64 {
 fn fresh(n: u8, b: u8, t: u8) -> Vec<u8> {
     let mut rec = vec![0; BLOCKS + BLOCK_SIZE * usize::from(b)];
     rec[..4].copy_from_slice(&[n, b, t, 0]);
+    rec[FORMAT..MESSAGES].copy_from_slice(FORMAT_BYTES);
     for k in 0..usize::from(b) {
         put_cell(&mut rec, k, 0, [t - 1, 1, 1]);
     }

@@ -1,7 +1,8 @@
 #!/bin/sh
-# Builds the host programs over the proved archives with warnings as errors, and runs them: the Rust package's tests, the headers, state letters in C,
-# the views of a record in C and Rust, both policies in Rust and C (C also with sanitizers), and the traces against their stored outputs. Needs gcc and
-# cargo, and in target/staticlib what `rt staticlib engine` and `rt staticlib wire` build. With g++ the headers and letters are tried in C++ too.
+# Builds the host programs over the proved archives with warnings as errors, and runs them: the Rust package's tests, the headers, state letters and
+# records of another format in C, the views of a record in C and Rust, both policies and a record kept in a file in Rust and C (C also with
+# sanitizers), and the traces against their stored outputs. Needs gcc and cargo, and in target/staticlib what `rt staticlib engine` and `rt staticlib
+# wire` build. With g++ the headers and letters are tried in C++ too.
 set -eu
 cd "$(dirname "$0")/.."
 
@@ -73,6 +74,13 @@ if command -v g++ >/dev/null; then
 fi
 echo "hosts: the headers in $languages; each accessor evaluates its argument once; $(cat "$out/letters.log")"
 
+# Records of another format.
+gcc $flags -O2 tests/formats.c $archives -o "$out/formats"
+gcc $flags $sanitized tests/formats.c $archives -o "$out/formats.sanitized"
+quietly formats "$out/formats"
+quietly formats_sanitized "$out/formats.sanitized"
+echo "hosts: $(cat "$out/formats.log")"
+
 # The view in C beside the rules of document 01, then the view in Rust beside that in C.
 gcc $flags -O2 tests/view_compare.c $archives -o "$out/view"
 gcc $flags $sanitized tests/view_compare.c $archives -o "$out/view.sanitized"
@@ -86,9 +94,9 @@ echo "hosts: the view in Rust agrees on $(grep -c '^record' "$out/view_c.figures
 wrong=$out/wrong
 mkdir -p "$wrong"
 cp include/*.h "$wrong"
-numbers=$(awk '$1 == "#define" && $2 ~ /^HYL_VIEW_/ && $3 ~ /^[0-9]+$/ { print $2 }' include/hyaloneth_view.h)
+numbers=$(awk '$1 == "#define" && $2 ~ /^HYL_VIEW_/ && $3 ~ /^[0-9]/ { print $2 }' include/hyaloneth_view.h)
 for number in $numbers; do
-    awk -v number="$number" '$1 == "#define" && $2 == number { $3++ } { print }' include/hyaloneth_view.h >"$wrong/hyaloneth_view.h"
+    awk -v number="$number" '$1 == "#define" && $2 == number { $3 = "(" $3 " + 1)" } { print }' include/hyaloneth_view.h >"$wrong/hyaloneth_view.h"
     gcc -std=c99 "-I$wrong" tests/view_compare.c $archives -o "$wrong/view"
     if "$wrong/view" >"$wrong/log" 2>&1; then
         echo "failed: with a wrong $number the view still agrees"
@@ -118,6 +126,49 @@ for seed in 1 2 3; do
 done
 cat "$out/policy_rust_1.log"
 echo "hosts: the policies in Rust and C agree, 3 seeds"
+
+# A record that is kept in a file, by programs in Rust and C in turn.
+gcc $flags -O2 hosts/c/resume.c $archives -o "$out/resume"
+gcc $flags $sanitized hosts/c/resume.c $archives -o "$out/resume.sanitized"
+resumes="$built/examples/resume $out/resume $out/resume.sanitized"
+kept=$out/kept
+for program in $resumes; do
+    "$program" "$kept"
+done >"$out/resume.log"
+printf 'run 1\nrun 2\nrun 3\n' >"$out/resume.expected"
+same "$out/resume.expected" "$out/resume.log"
+# Each program says this of the file, and leaves it as it is.
+says()
+{
+    echo "$2: $1" >"$out/resume.expected"
+    cp "$2" "$2.before"
+    for program in $resumes; do
+        if "$program" "$2" >"$out/resume.log" 2>&1; then
+            echo "failed: $program took up $2"
+            exit 1
+        fi
+        same "$out/resume.expected" "$out/resume.log"
+        cmp "$2" "$2.before"
+    done
+}
+# A copy of the file under another name, with byte $2 changed to 255.
+changed()
+{
+    cp "$kept" "$kept.$1"
+    printf '\377' | dd of="$kept.$1" bs=1 seek="$2" conv=notrunc 2>"$out/dd.log"
+}
+format=$(awk '$2 == "HYL_RECORD_FORMAT" { print $3 }' include/hyaloneth.h)
+changed number 31
+says "a record of format 255, this engine has $format" "$kept.number"
+changed name 30
+says "no record, or one of a version without formats" "$kept.name"
+head -c 31 "$kept" >"$kept.header"
+says "no record, or one of a version without formats" "$kept.header"
+changed count 3
+says "a record of this engine's format, cut short or damaged" "$kept.count"
+head -c 2000 "$kept" >"$kept.cut"
+says "a record of this engine's format, cut short or damaged" "$kept.cut"
+echo "hosts: a record in a file goes on in Rust and C, and one of another format is named"
 
 trace=$built/hyaloneth-trace
 count=0

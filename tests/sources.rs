@@ -1,7 +1,7 @@
 //! Checks over the sources, before anything is proved: no public entry has a `requires`; each must-fail edit fits its crate; what the
 //! documents name is there; modules use only those before them; specifications and proofs say in their first line what they state; no
-//! number of the record's layout stands outside its definitions; a deliver runs no code with an array and copies a message's words once.
-//! Run at the root of the repository; it ends with 1 and says why where something is amiss.
+//! size or offset of the record's layout stands outside its definitions, and its number is the same everywhere; a deliver runs no code with
+//! an array and copies a message's words once. Run at the root of the repository; it ends with 1 and says why where something is amiss.
 
 use std::collections::{BTreeMap, BTreeSet};
 use std::fs;
@@ -54,6 +54,7 @@ fn main() {
         modules(&crates, &mut bad),
         heads(&mut bad),
         layout_numbers(&mut bad),
+        format(&mut bad),
         deliver(&crates, &mut bad),
         documents(&crates, &mut bad),
     ];
@@ -285,6 +286,33 @@ fn layout_numbers(bad: &mut Vec<String>) -> String {
         }
     }
     "layout: its numbers stand in the definitions alone".into()
+}
+
+/// Where the number of the record's layout stands, each with the text before it: the specification, the code, both headers, the Rust package.
+const FORMATS: [(&str, &str); 5] = [
+    ("crates/spec_rack/specs/RecordLayout.antt", "\nformatNumber = "),
+    ("crates/spec_rack/src/lib.rt", "\npub const FORMAT_NUMBER: u32 = "),
+    ("include/hyaloneth.h", "\n#define HYL_RECORD_FORMAT "),
+    ("include/hyaloneth_view.h", "\n#define HYL_VIEW_FORMAT "),
+    ("hosts/rust/src/view.rs", "\npub(crate) const FORMAT_NUMBER: u8 = "),
+];
+
+/// The number of the record's layout is one number: in each of these places it stands once, with nothing behind it on its line.
+fn format(bad: &mut Vec<String>) -> String {
+    let mut numbers = BTreeMap::new();
+    for (path, before) in FORMATS {
+        let text = text(Path::new(path));
+        let found: Vec<&str> = text.split(before).skip(1).filter_map(|rest| rest.lines().next()).collect();
+        let number = found.first().and_then(|line| line.trim_end_matches(';').parse::<u8>().ok());
+        match number {
+            Some(number) if found.len() == 1 => numbers.entry(number).or_insert_with(Vec::new).push(path),
+            _ => bad.push(format!("{path}: behind {before:?} stands not one number of the record's layout, but {found:?}")),
+        }
+    }
+    if numbers.len() > 1 {
+        bad.push(format!("the record's layout has more than one number: {numbers:?}"));
+    }
+    format!("format: the record's layout has one number in {} places", FORMATS.len())
 }
 
 /// A deliver runs no function with an array, and copies the words of a message once, from their offset to the target's.

@@ -162,6 +162,7 @@ static void compare(void)
 {
     uint32_t i, block, c, w;
 
+    same("the format", hyl_view_format(rec), HYL_RECORD_FORMAT);
     same("N", hyl_view_boards(rec), rack.boards);
     same("B", hyl_view_blocks(rec), rack.blocks);
     same("T", hyl_view_tokens(rec), rack.tokens);
@@ -236,8 +237,8 @@ static void write_record(void)
         perror("view");
         exit(1);
     }
-    printf("record %" PRIu32 " %" PRIu32 " %" PRIu32 " %" PRIu32 " %zu\n", boards, hyl_view_blocks(rec), hyl_view_tokens(rec),
-           hyl_view_in_flight(rec), hyl_view_record_len(rec));
+    printf("record %" PRIu32 " %" PRIu32 " %" PRIu32 " %" PRIu32 " %" PRIu32 " %zu\n", hyl_view_format(rec), boards, hyl_view_blocks(rec),
+           hyl_view_tokens(rec), hyl_view_in_flight(rec), hyl_view_record_len(rec));
     for (i = 0; i < hyl_view_in_flight(rec); i++) {
         printf("message %" PRIu32 " %" PRIu32 " %" PRIu32 " %" PRIu32 " %" PRIu32 " %" PRIu32 " %" PRIu32, hyl_view_message_sender(rec, i),
                hyl_view_message_target(rec, i), hyl_view_message_block(rec, i), hyl_view_message_plain(rec, i), hyl_view_message_owner(rec, i),
@@ -470,6 +471,7 @@ int main(int argc, char **argv)
         perror(argv[1]);
         return 1;
     }
+    same("the number of the layout", HYL_VIEW_FORMAT, HYL_RECORD_FORMAT);
     for (i = 0; i < sizeof sizes / sizeof *sizes; i++)
         try_rack(sizes[i][0], sizes[i][1], sizes[i][2]);
     if (records && fclose(records) != 0) {

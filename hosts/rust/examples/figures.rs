@@ -1,7 +1,7 @@
 //! Prints every figure of the records in a file, which stand there one after the other, and the state
 //! letters. `tests/view_compare.c` writes such a file and prints the same lines by the view in C.
 
-use hyaloneth::{Boards, Owner, View};
+use hyaloneth::{Boards, Owner, Record, Refusal, View};
 use std::fmt::Write;
 use std::process::ExitCode;
 
@@ -18,11 +18,12 @@ fn bits(boards: Boards) -> u32 {
     boards.iter().fold(0, |set, board| set | 1 << board)
 }
 
-/// The figures of one record.
-fn figures(view: &View) -> Result<String, std::fmt::Error> {
+/// The figures of one record, its format first.
+fn figures(format: u8, view: &View) -> Result<String, std::fmt::Error> {
     let mut out = String::new();
     let (n, b, t) = (view.boards(), view.blocks(), view.tokens());
-    writeln!(out, "record {n} {b} {t} {} {}", view.messages().len(), view.record_len())?;
+    let (in_flight, len) = (view.messages().len(), view.record_len());
+    writeln!(out, "record {format} {n} {b} {t} {in_flight} {len}")?;
     for m in view.messages() {
         let (owner, data) = (owner(m.owner), u32::from(m.data));
         let carried = words(&m.words);
@@ -51,12 +52,21 @@ fn figures(view: &View) -> Result<String, std::fmt::Error> {
     Ok(out)
 }
 
+/// What is wrong with bytes that are refused.
+fn fault(bytes: &[u8], refusal: Refusal) -> String {
+    match View::format_of(bytes) {
+        None | Some(Record::FORMAT) => format!("a record is {refusal}"),
+        Some(other) => format!("a record of format {other}, this engine has {}", Record::FORMAT),
+    }
+}
+
 fn print(file: &str) -> Result<(), String> {
     let bytes = std::fs::read(file).map_err(|error| format!("{file}: {error}"))?;
     let mut rest = &bytes[..];
     while !rest.is_empty() {
-        let view = View::of(rest).map_err(|refusal| format!("{file}: a record is {refusal}"))?;
-        print!("{}", figures(&view).map_err(|error| format!("{file}: {error}"))?);
+        let view = View::of(rest).map_err(|refusal| format!("{file}: {}", fault(rest, refusal)))?;
+        let format = View::format_of(rest).unwrap_or(0);
+        print!("{}", figures(format, &view).map_err(|error| format!("{file}: {error}"))?);
         rest = &rest[view.record_len()..];
     }
     Ok(())

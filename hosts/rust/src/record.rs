@@ -6,12 +6,8 @@ use crate::{Refusal, Step, View};
 /// A rack's record at the front of a lent buffer.
 ///
 /// Bytes of the buffer past the record never change. The record lives in the buffer alone: a host
-/// may store the bytes, and go on with them later by [`Record::over`].
-///
-/// A record that was opened before owners had marks ([`Owner`](crate::Owner)) is not to be used any
-/// longer: open a new one. The marks of components stand where it has room, in bytes that nobody
-/// wrote; those of messages are 0 there. It may be refused with [`Refusal::Unsound`], or be sound
-/// with marks that are wrong.
+/// may store the bytes, and go on with them later by [`Record::over`]. A record of another format is
+/// refused: see [`Record::FORMAT`].
 ///
 /// ```
 /// use hyaloneth::{Record, Refusal, Reply, Step};
@@ -35,6 +31,39 @@ pub struct Record<'a> {
 impl<'a> Record<'a> {
     /// The longest record, in bytes: that of 32 blocks.
     pub const LONGEST: usize = view::block_at(32);
+
+    /// The format of a record: the number of its layout, which stands in its bytes. It rises by one
+    /// with every version that gives a byte of the record another meaning. [`Record::open`] writes
+    /// it, whatever the buffer held; no other call does. With another format, or none, a record is
+    /// not sound: a step, a letter and a view are refused with [`Refusal::Unsound`], a torn step with
+    /// [`Refusal::Torn`]. [`View::format_of`] tells which it has.
+    ///
+    /// Versions before format 1 wrote none, and cleared none. A buffer that held a record of this
+    /// format may still have its bytes after such a version has opened a record there. Clear the
+    /// buffer before, or that record may pass for a sound one.
+    ///
+    /// ```
+    /// use hyaloneth::{Record, Refusal, View};
+    ///
+    /// /// Why bytes that were kept cannot be taken up, if they cannot.
+    /// fn fault(kept: &[u8]) -> Option<String> {
+    ///     View::of(kept).err()?;
+    ///     Some(match View::format_of(kept) {
+    ///         None => "no record, or one of a version without formats".into(),
+    ///         Some(Record::FORMAT) => "of this engine's format, cut short or damaged".into(),
+    ///         Some(other) => format!("of format {other}, this engine has {}", Record::FORMAT),
+    ///     })
+    /// }
+    ///
+    /// let mut kept = vec![0; Record::len_for(1)?];
+    /// assert!(fault(&kept).unwrap().starts_with("no record"));
+    /// Record::open(&mut kept, 2, 1, 3)?;
+    /// assert_eq!(fault(&kept), None);
+    /// kept.pop();
+    /// assert!(fault(&kept).unwrap().contains("cut short"));
+    /// # Ok::<(), Refusal>(())
+    /// ```
+    pub const FORMAT: u8 = view::FORMAT_NUMBER;
 
     /// How many bytes the record of a rack of `blocks` blocks takes.
     ///

@@ -209,6 +209,11 @@ const BLOCK_COUNT: usize = 1;
 const TOKEN_COUNT: usize = 2;
 const MESSAGE_COUNT: usize = 3;
 
+// At its end the format, four bytes: a name of three, and the number of the layout.
+const FORMAT: usize = 28;
+const FORMAT_NAME: &[u8] = b"HYL";
+pub(crate) const FORMAT_NUMBER: u8 = 1;
+
 // The messages, the oldest first; then the figures in one.
 const MESSAGES: usize = 32;
 const MESSAGE_SIZE: usize = 40;
@@ -252,6 +257,28 @@ impl<'a> View<'a> {
         // Every sound record has board 1 and block 0, so only soundness can refuse their letter.
         letter_in(buffer, 1, 0)?;
         Ok(View { record: buffer })
+    }
+
+    /// The format of a record, the number of its layout: any bytes may be asked. None where they
+    /// have no format, or are too few for a record's header. A record of another format than
+    /// [`Record::FORMAT`](crate::Record::FORMAT) is not sound. One of that format may be unsound all
+    /// the same.
+    ///
+    /// ```
+    /// use hyaloneth::{Record, Refusal, View};
+    ///
+    /// let mut buffer = [0; Record::LONGEST];
+    /// assert_eq!(View::format_of(&buffer), None);
+    /// assert_eq!(View::format_of(&[]), None);
+    /// Record::open(&mut buffer, 2, 1, 3)?;
+    /// assert_eq!(View::format_of(&buffer), Some(Record::FORMAT));
+    /// # Ok::<(), Refusal>(())
+    /// ```
+    pub fn format_of(bytes: &[u8]) -> Option<u8> {
+        match bytes.get(FORMAT..MESSAGES)?.split_last()? {
+            (&number, FORMAT_NAME) => Some(number),
+            _ => None,
+        }
     }
 
     /// N, how many boards there are.
@@ -435,7 +462,7 @@ mod tests {
     fn room_is_neither_read_nor_changed() {
         const PLACES: usize = 16;
         let block = block_at(0);
-        let room: Vec<usize> = (MESSAGE_COUNT + 1..MESSAGES)
+        let room: Vec<usize> = (MESSAGE_COUNT + 1..FORMAT)
             .chain(block + DIRTY + PLACES..block + BARRING_SETS)
             .chain(block + WAITING_SET + SET_SIZE..block + WORDS)
             .chain(block + WORDS + WORDS_SIZE * 3..block_at(1))

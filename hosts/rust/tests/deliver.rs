@@ -14,6 +14,7 @@ const STORED: [u32; 8] = [0x2a, 0, 0, 0, 0, 0, 0, 0x0102_0304];
 
 /// Offsets in the record, by docs/RECORD.md.
 const COUNT_OFFSET: usize = 3;
+const FORMAT_OFFSET: usize = 28;
 
 fn message_offset(position: usize) -> usize {
     32 + 40 * position
@@ -60,6 +61,7 @@ impl Lent {
             Lent { given: pattern.clone(), want: pattern, list: Vec::new(), answers: Vec::new() };
         Record::open(&mut lent.given, 2, blocks as u32, 3).unwrap();
         lent.put(0, &[2, blocks as u8, 3, 0]);
+        lent.put(FORMAT_OFFSET, &[b'H', b'Y', b'L', Record::FORMAT]);
         for of in 0..blocks {
             // the four lanes; the barring sets and the waiting set; the words of home and boards
             lent.put(block_offset(of), &[0; 64]);

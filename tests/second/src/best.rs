@@ -5,9 +5,9 @@
 //! in its high half, starting at what makes a sound block's sum 0.
 
 use crate::layout::{
-    block_offset, length, message_offset, BARRING, BLOCKS, BLOCKS_OFFSET, BLOCK_SIZE, BOARDS, COUNT, DATA, DIRTY, HEADER_SIZE, MESH_ROOM,
-    MESSAGE_BLOCK, MESSAGE_DIRTY, MESSAGE_OWNER, MESSAGE_PLAIN, MESSAGE_SIZE, MESSAGE_WORDS, OWNER, PLACES, PLAIN, SENDER, SET_SIZE,
-    TARGET, TOKENS, VALID, WAITING, WORDS, WORDS_SIZE,
+    block_offset, length, message_offset, BARRING, BLOCKS, BLOCKS_OFFSET, BLOCK_SIZE, BOARDS, COUNT, DATA, DIRTY, FORMAT, FORMAT_BYTES,
+    HEADER_SIZE, MESH_ROOM, MESSAGE_BLOCK, MESSAGE_DIRTY, MESSAGE_OWNER, MESSAGE_PLAIN, MESSAGE_SIZE, MESSAGE_WORDS, OWNER, PLACES, PLAIN,
+    SENDER, SET_SIZE, TARGET, TOKENS, VALID, WAITING, WORDS, WORDS_SIZE,
 };
 use core::arch::x86_64::{
     __m128i, _mm_add_epi32, _mm_add_epi64, _mm_and_si128, _mm_andnot_si128, _mm_castpd_si128, _mm_castsi128_pd, _mm_cmpeq_epi16,
@@ -243,6 +243,9 @@ unsafe fn sound(rec: *const u8, len: usize) -> bool {
     }
     let (n, b, t, count) = (*rec.add(BOARDS), *rec.add(BLOCKS), *rec.add(TOKENS), usize::from(*rec.add(COUNT)));
     if n.wrapping_sub(1) > 14 || b.wrapping_sub(1) > 31 || t < n || t > 64 || count > MESH_ROOM || len < length(b.into()) {
+        return false;
+    }
+    if rec.add(FORMAT).cast::<u32>().read_unaligned() != u32::from_ne_bytes(FORMAT_BYTES) {
         return false;
     }
     let mut room = MaybeUninit::<Aligned<[u32; 32]>>::uninit();
@@ -707,6 +710,7 @@ pub fn open(rec: &mut [u8], boards: u32, blocks: u32, tokens: u32) -> u64 {
         *rec.add(BLOCKS) = blocks as u8;
         *rec.add(TOKENS) = tokens as u8;
         *rec.add(COUNT) = 0;
+        rec.add(FORMAT).cast::<[u8; 4]>().write_unaligned(FORMAT_BYTES);
         for b in 0..blocks as u8 {
             let block = block_at(rec, b);
             let none = _mm_setzero_si128();

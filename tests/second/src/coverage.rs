@@ -1,7 +1,9 @@
 //! What a comparison reached: for each call and kind of step, how often it was accepted and met each refusal; which letters were shown; which
-//! messages were delivered from a filled mesh, and whom they served; which steps at home the lists had; what was met of the owner's mark.
+//! messages were delivered from a filled mesh, and whom they served; which steps at home the lists had; what was met of the owner's mark and of
+//! other formats.
 
 use crate::calls::sound_rack;
+use crate::layout::{FORMAT, FORMAT_BYTES, HEADER_SIZE};
 use crate::letters::{self, LETTERS};
 use crate::model::{Answer, Message, Rack, Refusal, Reply, Step, HOME, MESH_LIMIT, WORDS};
 use crate::owners::{self, Look};
@@ -129,6 +131,41 @@ fn at_home(rack: &Rack, step: Step, reply: Reply) -> [bool; AT_HOME.len()] {
     ]
 }
 
+/// Damaged records at which an engine would be seen that takes another format: that leaves out a byte of it, takes every number up to its own or
+/// from it on, takes a record without one, or has its bytes in another order. All are refused, and would be sound with the format.
+const FORMATS: [&str; 7] = [
+    "another first byte",
+    "another second byte",
+    "another third byte",
+    "a lower number",
+    "a higher number",
+    "only zeros",
+    "its bytes in another order",
+];
+
+/// Which of these a record has.
+fn formats(record: &[u8]) -> [bool; FORMATS.len()] {
+    let format = match record.get(FORMAT..HEADER_SIZE) {
+        Some(format) if format != FORMAT_BYTES => format,
+        _ => return [false; FORMATS.len()],
+    };
+    let mut repaired = record.to_vec();
+    repaired[FORMAT..HEADER_SIZE].copy_from_slice(&FORMAT_BYTES);
+    if sound_rack(&repaired).is_err() {
+        return [false; FORMATS.len()];
+    }
+    let differs: Vec<usize> = (0..FORMAT_BYTES.len()).filter(|&at| format[at] != FORMAT_BYTES[at]).collect();
+    [
+        differs == [0],
+        differs == [1],
+        differs == [2],
+        differs == [3] && format[3] < FORMAT_BYTES[3],
+        differs == [3] && format[3] > FORMAT_BYTES[3],
+        format.iter().all(|&byte| byte == 0),
+        format.iter().eq(FORMAT_BYTES.iter().rev()),
+    ]
+}
+
 /// Deliveries from a filled mesh.
 #[derive(Default)]
 struct Delivered {
@@ -170,6 +207,7 @@ pub struct Coverage {
     at_home: [u64; AT_HOME.len()],
     owners: [u64; owners::MET.len()],
     marks: [u64; owners::DAMAGED.len()],
+    formats: [u64; FORMATS.len()],
 }
 
 /// Adds each to the count at its place.
@@ -264,6 +302,7 @@ impl Coverage {
         self.damaged += 1;
         self.damaged_sound += u64::from(sound_rack(record).is_ok());
         add_each(&mut self.marks, owners::damaged(before, record));
+        add_each(&mut self.formats, formats(record));
     }
 
     /// Adds what another part of the comparison reached.
@@ -272,6 +311,7 @@ impl Coverage {
         add_each(&mut self.at_home, other.at_home);
         add_each(&mut self.owners, other.owners);
         add_each(&mut self.marks, other.marks);
+        add_each(&mut self.formats, other.formats);
         self.steps += other.steps;
         self.lists += other.lists;
         self.most_in_flight = self.most_in_flight.max(other.most_in_flight);
@@ -307,6 +347,7 @@ impl Coverage {
         );
         println!("{} damaged records, {} of them sound", self.damaged, self.damaged_sound);
         println!("marks of damaged records: {}", named(&owners::DAMAGED, &self.marks));
+        println!("formats of damaged records: {}", named(&FORMATS, &self.formats));
         println!("{} runs of {} steps", self.runs, self.run_steps);
         println!(
             "{} lines worked by hand in {} situations; {} letters of boards, {} refused at home and off the rack",
@@ -329,12 +370,13 @@ impl Coverage {
     }
 
     /// What a kind can meet and never met, and what it met and cannot; what was never delivered; what was never tried at home; what was
-    /// never met of the owner's mark; which letters were never shown, in all and by a rack of the lists that can show them.
+    /// never met of the owner's mark and of other formats; which letters were never shown, in all and by a rack of the lists that can show them.
     pub fn gaps(&self) -> Vec<String> {
         let mut gaps = self.delivered.gaps();
         gaps.extend(missing(&AT_HOME, &self.at_home).map(|step| format!("no {step} at home")));
         gaps.extend(missing(&owners::MET, &self.owners).map(|sort| format!("no {sort}")));
         gaps.extend(missing(&owners::DAMAGED, &self.marks).map(|sort| format!("no damaged record: {sort}")));
+        gaps.extend(missing(&FORMATS, &self.formats).map(|sort| format!("no damaged record with another format: {sort}")));
         gaps.extend(missing(&LETTERS, &self.shown).map(|letter| format!("no letter {letter}")));
         for (sizes, shown) in &self.by_rack {
             for ((letter, &count), possible) in LETTERS.iter().zip(shown).zip(letters::possible(sizes.2)) {

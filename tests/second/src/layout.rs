@@ -1,11 +1,14 @@
 //! The byte layout of the record, by docs/RECORD.md: each number stands here once.
 
-/// The header: N, B, T and the count of messages in a byte each; the rest is room.
+/// The header: N, B, T and the count of messages in a byte each; then room; then the format.
 pub const HEADER_SIZE: usize = 32;
 pub const BOARDS: usize = 0;
 pub const BLOCKS: usize = 1;
 pub const TOKENS: usize = 2;
 pub const COUNT: usize = 3;
+pub const FORMAT: usize = 28;
+/// What a sound record has there: three bytes of a name, and the number of the layout.
+pub const FORMAT_BYTES: [u8; 4] = *b"HYL\x01";
 
 /// The mesh stands behind the header.
 pub const MESH_ROOM: usize = 64;

@@ -4,7 +4,7 @@ use crate::layout::{
     BARRING, BLOCKS_OFFSET, BLOCK_SIZE, COUNT, DATA, DIRTY, HEADER_SIZE, MESH_ROOM, MESSAGE_BLOCK, MESSAGE_DIRTY, MESSAGE_OWNER,
     MESSAGE_PLAIN, MESSAGE_SIZE, MESSAGE_WORDS, MESSAGE_ZERO, OWNER, PLACES, PLAIN, SENDER, SET_SIZE, TARGET, VALID, WAITING, WORDS_SIZE,
 };
-use crate::layout::{BLOCKS, BOARDS, TOKENS, WORDS as WORDS_OFFSET};
+use crate::layout::{BLOCKS, BOARDS, FORMAT, FORMAT_BYTES, TOKENS, WORDS as WORDS_OFFSET};
 use crate::model::{flag, Block, Cell, Message, Owner, Rack, Words, WORDS};
 use std::collections::BTreeSet;
 
@@ -15,7 +15,7 @@ pub use crate::layout::length;
 pub fn decode(buffer: &[u8]) -> Option<Rack> {
     let header = buffer.get(..HEADER_SIZE)?;
     let (components, count) = (usize::from(header[BOARDS]) + 1, usize::from(header[COUNT]));
-    if components > PLACES || count > MESH_ROOM {
+    if components > PLACES || count > MESH_ROOM || header[FORMAT..] != FORMAT_BYTES {
         return None;
     }
     let record = buffer.get(..length(header[BLOCKS].into()))?;
@@ -92,6 +92,7 @@ pub fn encode(rack: &Rack, buffer: &mut [u8]) {
     record[BLOCKS] = rack.blocks.len() as u8;
     record[TOKENS] = rack.tokens as u8;
     record[COUNT] = rack.mesh.len() as u8;
+    record[FORMAT..HEADER_SIZE].copy_from_slice(&FORMAT_BYTES);
     for (bytes, m) in record[HEADER_SIZE..].chunks_mut(MESSAGE_SIZE).zip(&rack.mesh) {
         bytes[SENDER] = m.sender;
         bytes[TARGET] = m.target;

@@ -1,19 +1,20 @@
 //! A yardstick of the benchmark: the same calls with the same checks, as fast plain Rust, on another record than the engine's.
 //!
 //! Its layout is the one the engine had before, a cell's figures and words side by side, with the owner's mark as bit 1 of the owner's
-//! byte. It is known in this file alone (`encode` writes a rack in it), so the engine is compared with it by results and by the rack's
-//! figures. What it shows is what the layout is worth.
+//! byte and the format behind the counts of the header. It is known in this file alone (`encode` writes a rack in it), so the engine is
+//! compared with it by results and by the rack's figures. What it shows is what the layout is worth.
 //!
 //! Nothing is proved here. Soundness is one pass without branches on the record's contents: complaints are gathered in a number that is 0 for a
 //! sound record, and each block's tokens in one sum (plain tokens in the low half, owners in the high half).
 
+use crate::layout::FORMAT_BYTES;
 use crate::model::{self, Rack};
 use crate::record;
 
-const MESH: usize = 4;
+const MESH: usize = 8;
 const MESSAGE: usize = 38;
 const MESH_LIMIT: u8 = 64;
-const BLOCKS: usize = 2436;
+const BLOCKS: usize = 2440;
 const BLOCK: usize = 592;
 const CELL: usize = 35;
 const SETS: usize = 560;
@@ -67,7 +68,8 @@ fn owner_byte(owner: model::Owner) -> u8 {
 /// Writes the figures of a rack over the front of a buffer that has room for them.
 pub fn encode(rack: &Rack, buffer: &mut [u8]) {
     let bytes = &mut buffer[..length(rack.blocks.len())];
-    bytes[..MESH].copy_from_slice(&[rack.boards, rack.blocks.len() as u8, rack.tokens as u8, rack.mesh.len() as u8]);
+    bytes[..4].copy_from_slice(&[rack.boards, rack.blocks.len() as u8, rack.tokens as u8, rack.mesh.len() as u8]);
+    bytes[4..MESH].copy_from_slice(&FORMAT_BYTES);
     for (bytes, m) in bytes[MESH..].chunks_mut(MESSAGE).zip(&rack.mesh) {
         bytes[..6].copy_from_slice(&[m.sender, m.target, m.block, m.plain as u8, owner_byte(m.owner), m.data.into()]);
         record::put_words(&mut bytes[6..], &m.words);
@@ -211,11 +213,11 @@ const BARRING: [[u64; 4]; 16] = {
 };
 
 fn sound(rec: &[u8]) -> bool {
-    let Some(&[n, b, t, count]) = rec.first_chunk() else {
+    let Some(&[n, b, t, count, ref format @ ..]) = rec.first_chunk::<MESH>() else {
         return false;
     };
     let sizes = (1..=15).contains(&n) && (1..=32).contains(&b) && n <= t && t <= 64 && count <= MESH_LIMIT;
-    if !sizes || rec.len() < BLOCKS + BLOCK * usize::from(b) {
+    if !sizes || rec.len() < BLOCKS + BLOCK * usize::from(b) || *format != FORMAT_BYTES {
         return false;
     }
     let (mesh, blocks) = rec.split_at(BLOCKS);
@@ -476,6 +478,7 @@ pub fn open(rec: &mut [u8], boards: u32, blocks: u32, tokens: u32) -> u64 {
         return SHORT_BUFFER;
     }
     rec[..4].copy_from_slice(&[boards as u8, blocks as u8, tokens as u8, 0]);
+    rec[4..MESH].copy_from_slice(&FORMAT_BYTES);
     let components = boards as usize + 1;
     for block in rec[BLOCKS..length].chunks_exact_mut(BLOCK) {
         block[..CELL * components].fill(0);

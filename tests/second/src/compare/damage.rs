@@ -3,7 +3,8 @@
 use super::{filled, Harness, Sizes, SPARE};
 use second::calls::Call;
 use second::layout::{
-    block_offset, message_offset, BLOCKS, BOARDS, COUNT, DIRTY, HEADER_SIZE, MESSAGE_DIRTY, MESSAGE_SIZE, PLACES, TOKENS, WORDS,
+    block_offset, message_offset, BLOCKS, BOARDS, COUNT, DIRTY, FORMAT, FORMAT_BYTES, HEADER_SIZE, MESSAGE_DIRTY, MESSAGE_SIZE, PLACES,
+    TOKENS, WORDS,
 };
 use second::model::{self, Owner, Rack, Step, HOME};
 use second::record;
@@ -199,19 +200,27 @@ impl Harness {
         }
     }
 
-    /// Every value of each header byte, in a buffer that has room for what it says: 255 blocks would fit.
+    /// Every value of each header byte that is no room, in a buffer that has room for what it says: 255 blocks would fit. Also no format, and its
+    /// bytes in another order.
     fn headers(&mut self) -> Result<(), String> {
         let (rack, buffer) = self.deep((3, 2, 5), 60, |_| true);
         let probes = self.probes(&rack);
         let mut long = filled(self.seed, record::length(255) + SPARE);
         long[..buffer.len()].copy_from_slice(&buffer);
-        for at in [BOARDS, BLOCKS, TOKENS, COUNT] {
+        for at in [BOARDS, BLOCKS, TOKENS, COUNT].into_iter().chain(FORMAT..HEADER_SIZE) {
             let kept = long[at];
             for value in 0..=255 {
                 long[at] = value;
                 self.damaged(&rack, &long, &probes, value.into())?;
             }
             long[at] = kept;
+        }
+        let [a, b, c, d] = FORMAT_BYTES;
+        for format in [[0; 4], [0xff; 4], [d, c, b, a]] {
+            long[FORMAT..HEADER_SIZE].copy_from_slice(&format);
+            for turn in 0..probes.len() + 2 {
+                self.damaged(&rack, &long, &probes, turn)?;
+            }
         }
         Ok(())
     }
