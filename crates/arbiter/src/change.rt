@@ -2,7 +2,7 @@
 ghost use Rattle.std.specs.Prelude.{◌≡◌, ℕ, ◌+◌, ◌≤◌, ◌<◌, true, length};
 ghost use Rattle.spec_base.specs.Layout.{slice};
 ghost use Rattle.spec_arbiter.specs.Claims.{raised, lowered};
-ghost use Rattle.spec_rack.specs.RecordLayout.{claims, claimsAtOffset, putClaims, claimsSize};
+ghost use Rattle.spec_rack.specs.RecordLayout.{claims, claims_at_offset, put_claims, claims_size};
 
 use super::sets;
 use base::numbers::{put_u16, u16_at};
@@ -10,8 +10,8 @@ use spec_rack::WAITING_OFFSET;
 
 // The board joins the waiting set.
 pub fn raise_at(rec: &mut [u8], at: usize, board: u8)
-    requires { (at + claimsSize ≤ length rec.old) × (board < 16) }
-    ensures { (n : ℕ) → n < 16 → (claims n).wellFormed (slice at claimsSize rec.old) ≡ true → rec.new ≡ putClaims n at (raised (claimsAtOffset n at rec.old) board) rec.old }
+    requires { (at + claims_size ≤ length rec.old) × (board < 16) }
+    ensures { (n : ℕ) → n < 16 → (claims n).well_formed (slice at claims_size rec.old) ≡ true → rec.new ≡ put_claims n at (raised (claims_at_offset n at rec.old) board) rec.old }
 {
     let place = at + WAITING_OFFSET;
     let w = u16_at(rec, place);
@@ -21,8 +21,8 @@ pub fn raise_at(rec: &mut [u8], at: usize, board: u8)
 
 // The board leaves the waiting set and every barring set; its own barring set becomes the waiting set that remains.
 pub fn lower_at(rec: &mut [u8], at: usize, boards: u8, board: u8)
-    requires { (at + claimsSize ≤ length rec.old) × (1 ≤ board) × (board ≤ boards) × (boards < 16) × ((claims boards).wellFormed (slice at claimsSize rec.old) ≡ true) }
-    ensures { rec.new ≡ putClaims boards at (lowered (claimsAtOffset boards at rec.old) board) rec.old }
+    requires { (at + claims_size ≤ length rec.old) × (1 ≤ board) × (board ≤ boards) × (boards < 16) × ((claims boards).well_formed (slice at claims_size rec.old) ≡ true) }
+    ensures { rec.new ≡ put_claims boards at (lowered (claims_at_offset boards at rec.old) board) rec.old }
 {
     let count = boards as usize;
     let mut i = 0;

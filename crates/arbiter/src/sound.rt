@@ -1,10 +1,10 @@
 // Whether the claims on a block, as lent bytes, are those of a sound record.
 ghost use Rattle.std.specs.Prelude.{◌≡◌, not, ◌&&◌, ◌+◌, ◌≤◌, ◌<◌, eqb, length, get_or};
 ghost use Rattle.spec_base.specs.Folds.{all_below, implies};
-ghost use Rattle.spec_arbiter.specs.Boards.{member, empty, subset, boardsOnly};
-ghost use Rattle.spec_arbiter.specs.Claims.{waiting, soundClaims};
+ghost use Rattle.spec_arbiter.specs.Boards.{member, empty, subset, boards_only};
+ghost use Rattle.spec_arbiter.specs.Claims.{waiting, sound_claims};
 ghost use Rattle.spec_base.specs.Layout.{slice};
-ghost use Rattle.spec_rack.specs.RecordLayout.{claims, claimsAtOffset, claimsSize};
+ghost use Rattle.spec_rack.specs.RecordLayout.{claims, claims_at_offset, claims_size};
 
 use super::claims::waiting_at;
 use super::sets;
@@ -28,8 +28,8 @@ fn barring_sound(waiting: u16, board: u8, barring: u16) -> bool
 
 // Whether the claims are those of a sound record.
 fn sets_sound(rec: &[u8], at: usize, boards: u8) -> bool
-    requires { (at + claimsSize ≤ length rec.now) × (boards < 16) }
-    ensures { result ≡ soundClaims boards (claimsAtOffset boards at rec.now) }
+    requires { (at + claims_size ≤ length rec.now) × (boards < 16) }
+    ensures { result ≡ sound_claims boards (claims_at_offset boards at rec.now) }
 {
     let w = waiting_at(rec, at);
     if !sets::boards_only(boards, w) {
@@ -48,8 +48,8 @@ fn sets_sound(rec: &[u8], at: usize, boards: u8) -> bool
 
 // Whether the places without a board are 0: the first, and those above the last board.
 fn unused_sets_zero(rec: &[u8], at: usize, boards: u8) -> bool
-    requires { (at + claimsSize ≤ length rec.now) × (boards < 16) }
-    ensures { result ≡ (claims boards).wellFormed (slice at claimsSize rec.now) }
+    requires { (at + claims_size ≤ length rec.now) × (boards < 16) }
+    ensures { result ≡ (claims boards).well_formed (slice at claims_size rec.now) }
 {
     let used = boards as usize * 2;
     let behind = at + 2 + used;
@@ -58,7 +58,7 @@ fn unused_sets_zero(rec: &[u8], at: usize, boards: u8) -> bool
 
 // Whether a board is barred: a byte of the barring sets is not 0.
 pub fn some_barred(rec: &[u8], at: usize) -> bool
-    requires { at + claimsSize ≤ length rec.now }
+    requires { at + claims_size ≤ length rec.now }
     ensures { result ≡ not (all_below 32 (λ i. eqb (get_or rec.now (at + i) 0) 0)) }
 {
     !all_zero(rec, at, WAITING_OFFSET)
@@ -66,16 +66,16 @@ pub fn some_barred(rec: &[u8], at: usize) -> bool
 
 // Whether only boards wait. Where no board is barred this alone decides whether the sets are formed and sound.
 pub fn only_boards_wait(rec: &[u8], at: usize, boards: u8) -> bool
-    requires { (at + claimsSize ≤ length rec.now) × (boards < 16) }
-    ensures { result ≡ boardsOnly boards (waiting (claimsAtOffset boards at rec.now)) }
+    requires { (at + claims_size ≤ length rec.now) × (boards < 16) }
+    ensures { result ≡ boards_only boards (waiting (claims_at_offset boards at rec.now)) }
 {
     sets::boards_only(boards, waiting_at(rec, at))
 }
 
 // Whether the sets are formed and sound.
 pub fn sound_at(rec: &[u8], at: usize, boards: u8) -> bool
-    requires { (at + claimsSize ≤ length rec.now) × (boards < 16) }
-    ensures { result ≡ ((claims boards).wellFormed (slice at claimsSize rec.now) && soundClaims boards (claimsAtOffset boards at rec.now)) }
+    requires { (at + claims_size ≤ length rec.now) × (boards < 16) }
+    ensures { result ≡ ((claims boards).well_formed (slice at claims_size rec.now) && sound_claims boards (claims_at_offset boards at rec.now)) }
 {
     both(
         unused_sets_zero(rec, at, boards),

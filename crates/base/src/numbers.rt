@@ -1,6 +1,6 @@
 // Numbers in lent bytes, the high byte first.
 ghost use Rattle.std.specs.Prelude.{◌≡◌, ◌+◌, ◌≤◌, length};
-ghost use Rattle.spec_base.specs.Layout.{slice, modifyAt, big};
+ghost use Rattle.spec_base.specs.Layout.{slice, modify_at, big};
 ghost use Rattle.spec_base.specs.Number.{digits};
 
 use super::wide;
@@ -25,7 +25,7 @@ pub fn u16_at(s: &[u8], at: usize) -> u16
 // Writes a number into the two bytes at `at`.
 pub fn put_u16(s: &mut [u8], at: usize, value: u16)
     requires { at + 2 ≤ length s.old }
-    ensures { s.new ≡ modifyAt at 2 ((big 2).write value) s.old }
+    ensures { s.new ≡ modify_at at 2 ((big 2).write value) s.old }
 {
     s[at] = (value / 256) as u8;
     s[at + 1] = (value % 256) as u8;
@@ -46,7 +46,7 @@ pub fn u32_at(s: &[u8], at: usize) -> u32
 // Writes a number into the four bytes at `at`.
 pub fn put_u32(s: &mut [u8], at: usize, value: u32)
     requires { at + 4 ≤ length s.old }
-    ensures { s.new ≡ modifyAt at 4 ((big 4).write value) s.old }
+    ensures { s.new ≡ modify_at at 4 ((big 4).write value) s.old }
 {
     s[at] = (value / 16777216) as u8;
     s[at + 1] = (value / 65536 % 256) as u8;

@@ -10,14 +10,14 @@ use lib.ListN.{length, set, take, drop, length-set, length-drop, take-append-dro
 use lib.Dec.{ltb}
 use mathlib.Core.Logic.{inl, inr, ⊎_elim}
 use borrow.Author.Tests.{ltb-true, ltb-false, lt-ltb}
-use Rattle.spec_base.proofs.Tests.{lt-or-le, and-known, and_l, and_r}
+use Rattle.spec_base.proofs.Tests.{lt_or_le, and_known, and_l, and_r}
 use lib.Seq.{drop-drop, take-suc-set, drop-set-lt, length-take-le}
 use Rattle.spec_base.specs.Folds.{sum}
-use Rattle.spec_rack.specs.Entries.{stepReply, stepAfter}
-use Rattle.spec_wire.specs.Frames.{frameSize, frames}
-use Rattle.wire_frames.proofs.Framing.{cuts_first, cuts-none, cuts-zero, span}
-use Rattle.spec_rack.specs.Lists.{runAll, repliesOf, after, replies, framesFrom, RunResult}
-use Rattle.spec_rack.specs.Results.{packedReply}
+use Rattle.spec_rack.specs.Entries.{step_reply, step_after}
+use Rattle.spec_wire.specs.Frames.{frame_size, frames}
+use Rattle.wire_frames.proofs.Framing.{cuts_first, cuts_none, cuts_zero, span}
+use Rattle.spec_rack.specs.Lists.{run_all, replies_of, after, replies, frames_from, RunResult}
+use Rattle.spec_rack.specs.Results.{packed_reply}
 
 module _ (rec₀ list : List ℕ) (at : ℕ) (out₀ : List ℕ) where
   -- the records that are left
@@ -27,11 +27,11 @@ module _ (rec₀ list : List ℕ) (at : ℕ) (out₀ : List ℕ) where
   pub record Going (rec out : List ℕ) (place made : ℕ) : Type 0 where
     pub few : made ≤ length out₀
     pub same : length out ≡ length out₀
-    pub count : length (framesFrom list at out₀) ≡ made + length (rest place made)
-    pub buffer : after rec₀ (framesFrom list at out₀) ≡ after rec (rest place made)
-    pub replies : map packedReply (replies rec₀ (framesFrom list at out₀)) ++ drop (length (framesFrom list at out₀)) out₀
-        ≡ take made out ++ (map packedReply (replies rec (rest place made)) ++ drop (made + length (rest place made)) out)
-    pub goes_on : at + sum length (framesFrom list at out₀) ≡ place + sum length (rest place made)
+    pub count : length (frames_from list at out₀) ≡ made + length (rest place made)
+    pub buffer : after rec₀ (frames_from list at out₀) ≡ after rec (rest place made)
+    pub replies : map packed_reply (replies rec₀ (frames_from list at out₀)) ++ drop (length (frames_from list at out₀)) out₀
+        ≡ take made out ++ (map packed_reply (replies rec (rest place made)) ++ drop (made + length (rest place made)) out)
+    pub goes_on : at + sum length (frames_from list at out₀) ≡ place + sum length (rest place made)
 
   pub going_start : Going rec₀ out₀ at 0
   going_start =
@@ -46,23 +46,23 @@ module _ (rec₀ list : List ℕ) (at : ℕ) (out₀ : List ℕ) where
 
   module _ (rec out : List ℕ) (place made : ℕ) (g : Going rec out place made) where
     -- one record more
-    module _ (room : made < length out₀) (some : place < length list) (end : ℕ) (is : end ≡ place + frameSize (drop place list)) where
-      rest-first : rest place made ≡ span list place end ∷ rest end (made + 1)
-      rest-first =
-          let n : ℕ = frameSize (drop place list) in
+    module _ (room : made < length out₀) (some : place < length list) (end : ℕ) (is : end ≡ place + frame_size (drop place list)) where
+      rest_first : rest place made ≡ span list place end ∷ rest end (made + 1)
+      rest_first =
+          let n : ℕ = frame_size (drop place list) in
           let k : length out₀ - made ≡ suc (length out₀ - (made + 1)) = omega arith in
           let e : end - place ≡ n = omega arith in
           ap (λ (j : ℕ). frames j (drop place list)) k
           ∙ cuts_first (length out₀ - (made + 1)) (drop place list) (simp length-drop (omega arith))
           ∙ (λ i. take (sym e i) (drop place list) ∷ frames (length out₀ - (made + 1)) ((drop-drop n place list ∙ ap (λ (j : ℕ). drop j list) (sym is)) i))
 
-      first-length : length (span list place end) ≡ end - place
-      unfolding frameSize
-      first-length = length-take-le (end - place) (drop place list) (simp length-drop (omega (arith, length-drop place list)))
+      first_length : length (span list place end) ≡ end - place
+      unfolding frame_size
+      first_length = length-take-le (end - place) (drop place list) (simp length-drop (omega (arith, length-drop place list)))
 
-      pub going_more : (v : ℕ) (rec' : List ℕ) → v ≡ packedReply (stepReply rec (span list place end)) → rec' ≡ stepAfter rec (span list place end)
+      pub going_more : (v : ℕ) (rec' : List ℕ) → v ≡ packed_reply (step_reply rec (span list place end)) → rec' ≡ step_after rec (span list place end)
           → Going rec' (set out made v) end (made + 1)
-      unfolding runAll repliesOf
+      unfolding run_all replies_of
       going_more v rec' ev er =
           let more = rest end (made + 1) in
           let shift : made + suc (length more) ≡ made + 1 + length more = omega arith in
@@ -71,21 +71,21 @@ module _ (rec₀ list : List ℕ) (at : ℕ) (out₀ : List ℕ) where
           record {
             few = omega arith;
             same = length-set out made v ∙ g.same;
-            count = g.count ∙ ap (λ (l : List (List ℕ)). made + length l) rest-first ∙ omega arith;
-            buffer = g.buffer ∙ ap (after rec) rest-first ∙ ap (λ (s : List ℕ). after s more) (sym er);
+            count = g.count ∙ ap (λ (l : List (List ℕ)). made + length l) rest_first ∙ omega arith;
+            buffer = g.buffer ∙ ap (after rec) rest_first ∙ ap (λ (s : List ℕ). after s more) (sym er);
             replies =
                 g.replies
-                ∙ ap (λ (l : List (List ℕ)). take made out ++ (map packedReply (replies rec l) ++ drop (made + length l) out)) rest-first
-                ∙ (λ i. take made out ++ (sym ev i ∷ (map packedReply (replies (sym er i) more) ++ drop (shift i) out)))
-                ∙ sym (append_assoc (take made out) (v ∷ []) (map packedReply (replies rec' more) ++ drop (made + 1 + length more) out))
-                ∙ (λ i. kept i ++ (map packedReply (replies rec' more) ++ sym (drop-set-lt (made + 1 + length more) out made v (omega arith)) i));
-            goes_on = g.goes_on ∙ ap (λ (l : List (List ℕ)). place + sum length l) rest-first ∙ omega (arith, first-length);
+                ∙ ap (λ (l : List (List ℕ)). take made out ++ (map packed_reply (replies rec l) ++ drop (made + length l) out)) rest_first
+                ∙ (λ i. take made out ++ (sym ev i ∷ (map packed_reply (replies (sym er i) more) ++ drop (shift i) out)))
+                ∙ sym (append_assoc (take made out) (v ∷ []) (map packed_reply (replies rec' more) ++ drop (made + 1 + length more) out))
+                ∙ (λ i. kept i ++ (map packed_reply (replies rec' more) ++ sym (drop-set-lt (made + 1 + length more) out made v (omega arith)) i));
+            goes_on = g.goes_on ∙ ap (λ (l : List (List ℕ)). place + sum length l) rest_first ∙ omega (arith, first_length);
           }
 
     -- the end
     module _ (none : rest place made ≡ []) where
       pub going_end : RunResult rec₀ list at out₀ made rec place out
-      unfolding runAll repliesOf
+      unfolding run_all replies_of
       going_end =
           record {
             count = sym (g.count ∙ ap (λ (l : List (List ℕ)). made + length l) none ∙ add-zero made);
@@ -93,7 +93,7 @@ module _ (rec₀ list : List ℕ) (at : ℕ) (out₀ : List ℕ) where
             replies =
                 sym
                 (g.replies
-                ∙ ap (λ (l : List (List ℕ)). take made out ++ (map packedReply (replies rec l) ++ drop (made + length l) out)) none
+                ∙ ap (λ (l : List (List ℕ)). take made out ++ (map packed_reply (replies rec l) ++ drop (made + length l) out)) none
                 ∙ ap (λ (k : ℕ). take made out ++ drop k out) (add-zero made)
                 ∙ take-append-drop made out);
             place = sym (g.goes_on ∙ ap (λ (l : List (List ℕ)). place + sum length l) none ∙ add-zero place);
@@ -102,11 +102,11 @@ module _ (rec₀ list : List ℕ) (at : ℕ) (out₀ : List ℕ) where
     -- where there is no room for another reply, or no byte is left, no record is left
     pub ended : (both : Bool) → both ≡ (ltb made (length out) && ltb place (length list)) → both ≡ false → rest place made ≡ []
     ended both e h =
-        ⊎_elim (λ (full : length out₀ ≤ made). ap (λ (k : ℕ). frames k (drop place list)) (let z : length out₀ - made ≡ 0 = omega arith in z) ∙ cuts-zero (drop place list))
-        (λ (room : made < length out₀). cuts-none (length out₀ - made) (drop place list)
-        (let q : length list ≤ place = ltb-false place (length list) (sym (and-known (ltb made (length out)) (ltb place (length list)) (lt-ltb made (length out) (omega (arith, g.same)))) ∙ sym e ∙ h) in
+        ⊎_elim (λ (full : length out₀ ≤ made). ap (λ (k : ℕ). frames k (drop place list)) (let z : length out₀ - made ≡ 0 = omega arith in z) ∙ cuts_zero (drop place list))
+        (λ (room : made < length out₀). cuts_none (length out₀ - made) (drop place list)
+        (let q : length list ≤ place = ltb-false place (length list) (sym (and_known (ltb made (length out)) (ltb place (length list)) (lt-ltb made (length out) (omega (arith, g.same)))) ∙ sym e ∙ h) in
         simp length-drop (omega arith)))
-        (⊎_elim inr inl (lt-or-le made (length out₀)))
+        (⊎_elim inr inl (lt_or_le made (length out₀)))
 
     -- and where there is room and a byte is left, both are known
     pub goes : (both : Bool) → both ≡ (ltb made (length out) && ltb place (length list)) → both ≡ true → (made < length out₀) × (place < length list)

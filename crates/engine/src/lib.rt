@@ -4,16 +4,16 @@ pub mod run;
 pub mod step;
 
 ghost use Rattle.std.specs.Prelude.{◌≡◌};
-ghost use Rattle.spec_rack.specs.Opening.{openReply, openAfter};
-ghost use Rattle.spec_rack.specs.Letter.{letterReply};
-ghost use Rattle.spec_rack.specs.Entries.{stepReply, stepAfter};
-ghost use Rattle.spec_rack.specs.Results.{packedReply, packedLetter, packedLength};
+ghost use Rattle.spec_rack.specs.Opening.{open_reply, open_after};
+ghost use Rattle.spec_rack.specs.Letter.{letter_reply};
+ghost use Rattle.spec_rack.specs.Entries.{step_reply, step_after};
+ghost use Rattle.spec_rack.specs.Results.{packed_reply, packed_letter, packed_length};
 ghost use Rattle.spec_rack.specs.Lists.{RunResult};
 
 // How many bytes the record of a rack of that many blocks takes.
 #[unsafe(no_mangle)]
 pub extern "C" fn hyl_record_len(blocks: u32) -> u64
-    ensures { result ≡ packedLength blocks }
+    ensures { result ≡ packed_length blocks }
 {
     engine_results::record_length(blocks)
 }
@@ -21,8 +21,8 @@ pub extern "C" fn hyl_record_len(blocks: u32) -> u64
 // Opens a record at the front of a buffer.
 #[unsafe(no_mangle)]
 pub extern "C" fn hyl_open(rec: &mut [u8], boards: u32, blocks: u32, tokens: u32) -> u64
-    ensures reply { result ≡ packedReply (openReply boards blocks tokens rec.old) }
-    ensures buffer { rec.new ≡ openAfter boards blocks tokens rec.old }
+    ensures reply { result ≡ packed_reply (open_reply boards blocks tokens rec.old) }
+    ensures buffer { rec.new ≡ open_after boards blocks tokens rec.old }
 {
     engine_results::reply(record_open::open(rec, boards, blocks, tokens))
 }
@@ -30,8 +30,8 @@ pub extern "C" fn hyl_open(rec: &mut [u8], boards: u32, blocks: u32, tokens: u32
 // Gives the bytes of a step to the record.
 #[unsafe(no_mangle)]
 pub extern "C" fn hyl_step(rec: &mut [u8], step: &[u8]) -> u64
-    ensures reply { result ≡ packedReply (stepReply rec.old step.now) }
-    ensures buffer { rec.new ≡ stepAfter rec.old step.now }
+    ensures reply { result ≡ packed_reply (step_reply rec.old step.now) }
+    ensures buffer { rec.new ≡ step_after rec.old step.now }
 {
     let sound = record_soundness::sound(rec);
     step::step_result(rec, sound, step)
@@ -48,7 +48,7 @@ pub extern "C" fn hyl_run(rec: &mut [u8], list: &[u8], at: &mut usize, replies: 
 // The state letter of a board and a block.
 #[unsafe(no_mangle)]
 pub extern "C" fn hyl_letter(rec: &[u8], component: u32, block: u32) -> u64
-    ensures { result ≡ packedLetter (letterReply rec.now component block) }
+    ensures { result ≡ packed_letter (letter_reply rec.now component block) }
 {
     engine_results::lettered(engine_letter::letter(rec, component, block))
 }

@@ -1,7 +1,7 @@
 // The state letter of a board and a block.
 ghost use Rattle.std.specs.Prelude.{◌≡◌, ◌+◌, ◌≤◌, ◌<◌, length, get_or};
-ghost use Rattle.spec_rack.specs.Letter.{letterOf, letterReply};
-ghost use Rattle.spec_rack.specs.RecordLayout.{ownerOffset, dirtyOffset, cellAtOffset, tokensIn};
+ghost use Rattle.spec_rack.specs.Letter.{letter_of, letter_reply};
+ghost use Rattle.spec_rack.specs.RecordLayout.{owner_offset, dirty_offset, cell_at_offset, tokens_in};
 
 use base::{either, wide_at};
 use record_soundness::sound;
@@ -13,8 +13,8 @@ use spec_wire::Refusal;
 
 // The letter of the component whose plain count is at `at`.
 fn letter_at(rec: &[u8], at: usize) -> Letter
-    requires { (at + dirtyOffset < length rec.now) × (get_or rec.now (at + ownerOffset) 0 < 2) × (get_or rec.now (at + dirtyOffset) 0 ≤ get_or rec.now (at + ownerOffset) 0) }
-    ensures { result ≡ letterOf (tokensIn rec.now) (cellAtOffset rec.now at) }
+    requires { (at + dirty_offset < length rec.now) × (get_or rec.now (at + owner_offset) 0 < 2) × (get_or rec.now (at + dirty_offset) 0 ≤ get_or rec.now (at + owner_offset) 0) }
+    ensures { result ≡ letter_of (tokens_in rec.now) (cell_at_offset rec.now at) }
 {
     let owner = wide_at(rec, at + OWNER_OFFSET);
     if wide_at(rec, at) + owner == wide_at(rec, TOKEN_COUNT_OFFSET) {
@@ -35,7 +35,7 @@ fn letter_at(rec: &[u8], at: usize) -> Letter
 }
 
 pub fn letter(rec: &[u8], component: u32, block: u32) -> Lettered
-    ensures { result ≡ letterReply rec.now component block }
+    ensures { result ≡ letter_reply rec.now component block }
 {
     if !sound(rec) {
         return Lettered::Refused(Refusal::Unsound);

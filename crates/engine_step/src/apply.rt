@@ -3,8 +3,8 @@ ghost use Rattle.std.specs.Prelude.{◌≡◌};
 ghost use Rattle.spec_wire.specs.declared.Refusal.TheVariants.{Unsound};
 ghost use Rattle.spec_rack.specs.declared.Reply.TheVariants.{Refused};
 ghost use Rattle.spec_rack.specs.Rules.{reply};
-ghost use Rattle.spec_rack.specs.Entries.{outcome, bufferAfterOutcome};
-ghost use Rattle.spec_rack.specs.Soundness.{soundBytes};
+ghost use Rattle.spec_rack.specs.Entries.{outcome, buffer_after_outcome};
+ghost use Rattle.spec_rack.specs.Soundness.{sound_bytes};
 
 use spec_rack::Reply;
 use spec_wire::{Reading, Refusal, Step};
@@ -20,9 +20,9 @@ fn unsound() -> Reply
 // A step, as it was parsed, on a record whose soundness is known: refused, with nothing changed, or made. Soundness is tested in each arm and not before
 // the match: so the compiler goes from the reader's arm of a kind straight to the arm here.
 pub fn apply(rec: &mut [u8], sound: bool, parsed: Parsed) -> Reply
-    requires { sound ≡ soundBytes rec.old }
+    requires { sound ≡ sound_bytes rec.old }
     ensures reply { result ≡ reply (outcome (Reading.Step parsed.step) rec.old) }
-    ensures buffer { rec.new ≡ bufferAfterOutcome rec.old (outcome (Reading.Step parsed.step) rec.old) }
+    ensures buffer { rec.new ≡ buffer_after_outcome rec.old (outcome (Reading.Step parsed.step) rec.old) }
 {
     let step = parsed.step;
     match step {

@@ -3,8 +3,8 @@
 pub mod apply;
 
 ghost use Rattle.std.specs.Prelude.{◌≡◌};
-ghost use Rattle.spec_rack.specs.Soundness.{soundBytes};
-ghost use Rattle.spec_rack.specs.Entries.{stepReply, stepAfter};
+ghost use Rattle.spec_rack.specs.Soundness.{sound_bytes};
+ghost use Rattle.spec_rack.specs.Entries.{step_reply, step_after};
 
 use spec_rack::Reply;
 use spec_wire::Refusal;
@@ -12,9 +12,9 @@ use spec_wire::Refusal;
 // The bytes of a step, given to a record whose soundness is known. The step stays inside what was parsed: by itself it is eight bytes, which the compiler
 // would pack into one number and take apart again.
 pub fn step_known_sound(rec: &mut [u8], sound: bool, bytes: &[u8]) -> Reply
-    requires { sound ≡ soundBytes rec.old }
-    ensures reply { result ≡ stepReply rec.old bytes.now }
-    ensures buffer { rec.new ≡ stepAfter rec.old bytes.now }
+    requires { sound ≡ sound_bytes rec.old }
+    ensures reply { result ≡ step_reply rec.old bytes.now }
+    ensures buffer { rec.new ≡ step_after rec.old bytes.now }
 {
     let parsed = wire_reader::parse(bytes);
     if !parsed.ok {
@@ -25,8 +25,8 @@ pub fn step_known_sound(rec: &mut [u8], sound: bool, bytes: &[u8]) -> Reply
 
 // Gives the bytes of a step to the record.
 pub fn step(rec: &mut [u8], bytes: &[u8]) -> Reply
-    ensures reply { result ≡ stepReply rec.old bytes.now }
-    ensures buffer { rec.new ≡ stepAfter rec.old bytes.now }
+    ensures reply { result ≡ step_reply rec.old bytes.now }
+    ensures buffer { rec.new ≡ step_after rec.old bytes.now }
 {
     let sound = record_soundness::sound(rec);
     step_known_sound(rec, sound, bytes)

@@ -11,21 +11,21 @@ use lib.Seq.{take-set-le, drop_at, set_split, length-take-le}
 use lib.Dec.{ltb}
 use borrow.Author.Tests.{lt-ltb, le-ltb}
 use Rattle.spec_base.specs.Placing.{place}
-use Rattle.spec_base.proofs.Placing.{place_none, place_byte, Placed, placed-more, placed_same}
+use Rattle.spec_base.proofs.Placing.{place_none, place_byte, Placed, placed_more, placed_same}
 use Rattle.spec_wire.specs.declared.Refusal.{Refusal}
 use Rattle.spec_wire.specs.Refusals.{number}
-use Rattle.spec_wire.proofs.RefusalTable.{number-known}
+use Rattle.spec_wire.proofs.RefusalTable.{number_known}
 use Rattle.spec_rack.specs.declared.Answer.TheVariants.{Done, Word, Served}
 use Rattle.spec_rack.specs.declared.Reply.{Reply}
 use Rattle.spec_rack.specs.declared.Reply.TheVariants.{Accepted, Refused}
-use Rattle.spec_rackrun.specs.Rackrun.{digit, digits, decimal, replyText, replyLine, line}
+use Rattle.spec_rackrun.specs.Rackrun.{digit, digits, decimal, reply_text, reply_line, line}
 
 -- ---- lengths
 
-pub length-decimal : (k n : ℕ) → length (decimal k n) ≤ k + 1
+pub length_decimal : (k n : ℕ) → length (decimal k n) ≤ k + 1
 unfolding decimal
-length-decimal zero n = omega arith
-length-decimal (suc k) n = by (length-decimal k (n / 10)) (ltb n 10)
+length_decimal zero n = omega arith
+length_decimal (suc k) n = by (length_decimal k (n / 10)) (ltb n 10)
   where
     by : length (decimal k (n / 10)) ≤ k + 1 → (t : Bool) → length (cond t (digit n ∷ []) (decimal k (n / 10) ++ digit (n % 10) ∷ [])) ≤ suc k + 1
     by l true = omega arith
@@ -36,33 +36,33 @@ unfolding digits
 length_digits b zero n = refl
 length_digits b (suc k) n = omega (arith, length-append (digits b k (n / b)) (digit (n % b) ∷ []), length_digits b k (n / b))
 
-length-said : (r : Reply) → length (replyText r) ≤ 9
-unfolding replyText
-length-said (Accepted Done) = omega arith
-length-said (Accepted (Word w)) = omega (arith, length_digits 16 8 w)
-length-said (Accepted (Served c b)) = omega (arith, length-append (decimal 2 c) (46 ∷ decimal 2 b), length-decimal 2 c, length-decimal 2 b)
-length-said (Refused r) = omega (arith, length-decimal 1 (number r))
+length_said : (r : Reply) → length (reply_text r) ≤ 9
+unfolding reply_text
+length_said (Accepted Done) = omega arith
+length_said (Accepted (Word w)) = omega (arith, length_digits 16 8 w)
+length_said (Accepted (Served c b)) = omega (arith, length-append (decimal 2 c) (46 ∷ decimal 2 b), length_decimal 2 c, length_decimal 2 b)
+length_said (Refused r) = omega (arith, length_decimal 1 (number r))
 
-pub length-line : (i : ℕ) (r : Reply) → length (line i r) ≤ 16
+pub length_line : (i : ℕ) (r : Reply) → length (line i r) ≤ 16
 unfolding line
-length-line i r = omega (arith, length-append (decimal 4 i) (32 ∷ replyLine r), length-append (replyText r) (10 ∷ []), length-decimal 4 i, length-said r)
+length_line i r = omega (arith, length-append (decimal 4 i) (32 ∷ reply_line r), length-append (reply_text r) (10 ∷ []), length_decimal 4 i, length_said r)
 
 -- ---- numbers in decimal, by their counts of digits
 
-pub decimal-first : (k n : ℕ) → n < 10 → decimal k n ≡ digits 10 1 n
+pub decimal_first : (k n : ℕ) → n < 10 → decimal k n ≡ digits 10 1 n
 unfolding decimal digits
-decimal-first zero n l = refl
-decimal-first (suc k) n l =
+decimal_first zero n l = refl
+decimal_first (suc k) n l =
     ap (λ (t : Bool). cond t (digit n ∷ []) (decimal k (n / 10) ++ digit (n % 10) ∷ [])) (lt-ltb n 10 l)
     ∙ ap (λ (m : ℕ). digit m ∷ []) (let e : n ≡ n % 10 = omega arith in e)
 
-pub decimal-last : (n : ℕ) → decimal 0 n ≡ digits 10 1 n
+pub decimal_last : (n : ℕ) → decimal 0 n ≡ digits 10 1 n
 unfolding decimal digits
-decimal-last n = refl
+decimal_last n = refl
 
-pub decimal-more : (k j n : ℕ) → 10 ≤ n → decimal k (n / 10) ≡ digits 10 j (n / 10) → decimal (suc k) n ≡ digits 10 (suc j) n
+pub decimal_more : (k j n : ℕ) → 10 ≤ n → decimal k (n / 10) ≡ digits 10 j (n / 10) → decimal (suc k) n ≡ digits 10 (suc j) n
 unfolding decimal digits
-decimal-more k j n l e =
+decimal_more k j n l e =
     ap (λ (t : Bool). cond t (digit n ∷ []) (decimal k (n / 10) ++ digit (n % 10) ∷ [])) (le-ltb n 10 l)
     ∙ ap (λ (m : List ℕ). m ++ digit (n % 10) ∷ []) e
 
@@ -72,37 +72,37 @@ AtMost zero n = n < 10
 AtMost (suc k) n = AtMost k (n / 10)
 
 -- room for one digit more changes nothing
-decimal-wider : (k n : ℕ) → AtMost k n → decimal k n ≡ decimal (suc k) n
+decimal_wider : (k n : ℕ) → AtMost k n → decimal k n ≡ decimal (suc k) n
 unfolding decimal
-decimal-wider zero n l = decimal-last n ∙ sym (decimal-first 1 n l)
-decimal-wider (suc k) n l = ap (λ (m : List ℕ). cond (ltb n 10) (digit n ∷ []) (m ++ digit (n % 10) ∷ [])) (decimal-wider k (n / 10) l)
+decimal_wider zero n l = decimal_last n ∙ sym (decimal_first 1 n l)
+decimal_wider (suc k) n l = ap (λ (m : List ℕ). cond (ltb n 10) (digit n ∷ []) (m ++ digit (n % 10) ∷ [])) (decimal_wider k (n / 10) l)
 
-decimal-three : (n : ℕ) → n < 1000 → decimal 2 n ≡ decimal 4 n
-decimal-three n l = decimal-wider 2 n (omega arith) ∙ decimal-wider 3 n (omega arith)
+decimal_three : (n : ℕ) → n < 1000 → decimal 2 n ≡ decimal 4 n
+decimal_three n l = decimal_wider 2 n (omega arith) ∙ decimal_wider 3 n (omega arith)
 
-decimal-two : (n : ℕ) → n < 100 → decimal 1 n ≡ decimal 4 n
-decimal-two n l = decimal-wider 1 n (omega arith) ∙ decimal-three n (omega arith)
+decimal_two : (n : ℕ) → n < 100 → decimal 1 n ≡ decimal 4 n
+decimal_two n l = decimal_wider 1 n (omega arith) ∙ decimal_three n (omega arith)
 
 -- a byte has three digits at most
 pub byte_width : (n w : ℕ) → n < 256 → decimal 4 n ≡ digits 10 w n → w ≤ 3
-byte_width n w l e = omega (arith, ap length (decimal-three n (omega arith) ∙ e), length-decimal 2 n, length_digits 10 w n)
+byte_width n w l e = omega (arith, ap length (decimal_three n (omega arith) ∙ e), length_decimal 2 n, length_digits 10 w n)
 
 -- ---- what is said
 
-pub said-word : (w : ℕ) → replyText (Accepted (Word w)) ≡ 118 ∷ digits 16 8 w
-unfolding replyText
-said-word w = refl
+pub said_word : (w : ℕ) → reply_text (Accepted (Word w)) ≡ 118 ∷ digits 16 8 w
+unfolding reply_text
+said_word w = refl
 
-pub said-refused : (r : Refusal) (n w : ℕ) → n ≡ number r → decimal 4 n ≡ digits 10 w n → replyText (Refused r) ≡ 114 ∷ digits 10 w n
-unfolding replyText
-said-refused r n w e d = ap (λ (l : List ℕ). 114 ∷ l) (decimal-two (number r) (omega (arith, number-known r)) ∙ ap (decimal 4) (sym e) ∙ d)
+pub said_refused : (r : Refusal) (n w : ℕ) → n ≡ number r → decimal 4 n ≡ digits 10 w n → reply_text (Refused r) ≡ 114 ∷ digits 10 w n
+unfolding reply_text
+said_refused r n w e d = ap (λ (l : List ℕ). 114 ∷ l) (decimal_two (number r) (omega (arith, number_known r)) ∙ ap (decimal 4) (sym e) ∙ d)
 
 -- ---- digits placed from the last to the first
 
 -- a byte stored after a place that a run of bytes comes to
-place-last : (at x : ℕ) (a out : List ℕ) → at + length a < length out → place at a (set out (at + length a) x) ≡ place at (a ++ x ∷ []) out
+place_last : (at x : ℕ) (a out : List ℕ) → at + length a < length out → place at a (set out (at + length a) x) ≡ place at (a ++ x ∷ []) out
 unfolding place
-place-last at x a out h =
+place_last at x a out h =
     let i : ℕ = at + length a in
     let rest : drop i (set out i x) ≡ x ∷ drop (i + 1) out =
     ap (drop i) (set_split out i x h) ∙ drop_at (take i out) (x ∷ drop (suc i) out) i (length-take-le i out (omega arith)) ∙ ap (λ (k : ℕ). x ∷ drop k out) (sym (add-one i)) in
@@ -126,7 +126,7 @@ module _ (at base count n : ℕ) (out₀ : List ℕ) where
           long = simp length-set g.long;
           whole =
               ap (λ (j : ℕ). place at (digits base k (rest / base)) (set out (at + j) d)) (sym (length_digits base k (rest / base)))
-              ∙ place-last at d (digits base k (rest / base)) out (omega (arith, length_digits base k (rest / base), g.few, g.long))
+              ∙ place_last at d (digits base k (rest / base)) out (omega (arith, length_digits base k (rest / base), g.few, g.long))
               ∙ ap (λ (x : ℕ). place at (digits base k (rest / base) ++ x ∷ []) out) e
               ∙ g.whole;
         }
@@ -137,63 +137,63 @@ module _ (at base count n : ℕ) (out₀ : List ℕ) where
     going_end (suc k) l g = absurd (omega arith)
 
 -- a byte after the digits
-pub digits-ended : (at base count n end : ℕ) (out : List ℕ) → at + count < length out → place at (digits base count n) (set out (at + count) end) ≡ place at (digits base count n ++ end ∷ []) out
-digits-ended at base count n end out h =
+pub digits_ended : (at base count n end : ℕ) (out : List ℕ) → at + count < length out → place at (digits base count n) (set out (at + count) end) ≡ place at (digits base count n ++ end ∷ []) out
+digits_ended at base count n end out h =
     ap (λ (k : ℕ). place at (digits base count n) (set out (at + k) end)) (sym (length_digits base count n))
-    ∙ place-last at end (digits base count n) out (omega (arith, length_digits base count n))
+    ∙ place_last at end (digits base count n) out (omega (arith, length_digits base count n))
 
 -- ---- a line
 
 -- a letter, digits and a byte after them
-pub number-placed : (at last letter b k n end : ℕ) (out out₁ : List ℕ) → at + 1 + k < length out
+pub number_placed : (at last letter b k n end : ℕ) (out out₁ : List ℕ) → at + 1 + k < length out
     → (last ≡ at + 1 + k + 1) × (out₁ ≡ place (at + 1) (digits b k n ++ end ∷ []) (set out at letter))
     → (last ≡ at + k + 2) × (out₁ ≡ place at (letter ∷ (digits b k n ++ end ∷ [])) out)
-number-placed at last letter b k n end out out₁ h (p, q) = (
+number_placed at last letter b k n end out out₁ h (p, q) = (
   omega arith,
-  (placed-more at (at + 1) last (letter ∷ []) (digits b k n ++ end ∷ []) out (set out at letter) out₁ (omega arith)
+  (placed_more at (at + 1) last (letter ∷ []) (digits b k n ++ end ∷ []) out (set out at letter) out₁ (omega arith)
       (refl, place_byte at letter out (omega arith)) (omega (arith, length-append (digits b k n) (end ∷ []), length_digits b k n), q)).1,
 )
 
 -- `ok`, byte by byte
-pub done-placed : (at : ℕ) (out : List ℕ) → at + 3 ≤ length out → Placed at (replyLine (Accepted Done)) out (at + 3) (set (set (set out at 111) (at + 1) 107) (at + 2) 10)
-unfolding replyText
-done-placed at out h =
+pub done_placed : (at : ℕ) (out : List ℕ) → at + 3 ≤ length out → Placed at (reply_line (Accepted Done)) out (at + 3) (set (set (set out at 111) (at + 1) 107) (at + 2) 10)
+unfolding reply_text
+done_placed at out h =
     let one : List ℕ = set out at 111 in
     let two : List ℕ = set one (at + 1) 107 in
     let l : length one ≡ length out = length-set out at 111 in
     let l' : length two ≡ length one = length-set one (at + 1) 107 in
-    placed-more at (at + 1) (at + 3) (111 ∷ []) (107 ∷ 10 ∷ []) out one _ (omega arith) (refl, place_byte at 111 out (omega arith))
-    (placed-more (at + 1) (at + 2) (at + 3) (107 ∷ []) (10 ∷ []) one two _ (omega arith) (omega arith, place_byte (at + 1) 107 one (omega arith))
+    placed_more at (at + 1) (at + 3) (111 ∷ []) (107 ∷ 10 ∷ []) out one _ (omega arith) (refl, place_byte at 111 out (omega arith))
+    (placed_more (at + 1) (at + 2) (at + 3) (107 ∷ []) (10 ∷ []) one two _ (omega arith) (omega arith, place_byte (at + 1) 107 one (omega arith))
     (omega arith, place_byte (at + 2) 10 two (omega arith)))
 
 -- a reply with one number
-pub reply-placed : (at last letter b k n : ℕ) (r : Reply) (out out₁ : List ℕ) → replyText r ≡ letter ∷ digits b k n
-    → (last ≡ at + k + 2) × (out₁ ≡ place at (letter ∷ (digits b k n ++ 10 ∷ [])) out) → Placed at (replyLine r) out last out₁
-reply-placed at last letter b k n r out out₁ e (p, q) =
-    placed_same at last (letter ∷ (digits b k n ++ 10 ∷ [])) (replyLine r) out out₁ (ap (λ (l : List ℕ). l ++ 10 ∷ []) (sym e))
+pub reply_placed : (at last letter b k n : ℕ) (r : Reply) (out out₁ : List ℕ) → reply_text r ≡ letter ∷ digits b k n
+    → (last ≡ at + k + 2) × (out₁ ≡ place at (letter ∷ (digits b k n ++ 10 ∷ [])) out) → Placed at (reply_line r) out last out₁
+reply_placed at last letter b k n r out out₁ e (p, q) =
+    placed_same at last (letter ∷ (digits b k n ++ 10 ∷ [])) (reply_line r) out out₁ (ap (λ (l : List ℕ). l ++ 10 ∷ []) (sym e))
     (omega (arith, length-append (digits b k n) (10 ∷ []), length_digits b k n), q)
 
 -- a component, a point, a block
-pub served-placed : (at next last c b w v : ℕ) (out out₁ out₂ : List ℕ) → at ≤ length out → c < 256 → b < 256
+pub served_placed : (at next last c b w v : ℕ) (out out₁ out₂ : List ℕ) → at ≤ length out → c < 256 → b < 256
     → decimal 4 c ≡ digits 10 w c → decimal 4 b ≡ digits 10 v b
     → (next ≡ at + w + 2) × (out₁ ≡ place at (100 ∷ (digits 10 w c ++ 46 ∷ [])) out) → (last ≡ next + v + 1) × (out₂ ≡ place next (digits 10 v b ++ 10 ∷ []) out₁)
-    → Placed at (replyLine (Accepted (Served c b))) out last out₂
-unfolding replyText
-served-placed at next last c b w v out out₁ out₂ h lc lb ec eb (p, q) (p', q') =
-    let dc : decimal 2 c ≡ digits 10 w c = decimal-three c (omega arith) ∙ ec in
-    let db : decimal 2 b ≡ digits 10 v b = decimal-three b (omega arith) ∙ eb in
-    placed_same at last ((100 ∷ (digits 10 w c ++ 46 ∷ [])) ++ (digits 10 v b ++ 10 ∷ [])) (replyLine (Accepted (Served c b))) out out₂
+    → Placed at (reply_line (Accepted (Served c b))) out last out₂
+unfolding reply_text
+served_placed at next last c b w v out out₁ out₂ h lc lb ec eb (p, q) (p', q') =
+    let dc : decimal 2 c ≡ digits 10 w c = decimal_three c (omega arith) ∙ ec in
+    let db : decimal 2 b ≡ digits 10 v b = decimal_three b (omega arith) ∙ eb in
+    placed_same at last ((100 ∷ (digits 10 w c ++ 46 ∷ [])) ++ (digits 10 v b ++ 10 ∷ [])) (reply_line (Accepted (Served c b))) out out₂
     (ap {B = List ℕ} (λ l. 100 ∷ l) (append_assoc (digits 10 w c) (46 ∷ []) (digits 10 v b ++ 10 ∷ []) ∙ (λ j. sym dc j ++ 46 ∷ (sym db j ++ 10 ∷ [])) ∙ sym (append_assoc (decimal 2 c) (46 ∷ decimal 2 b) (10 ∷ []))))
-    (placed-more at next last (100 ∷ (digits 10 w c ++ 46 ∷ [])) (digits 10 v b ++ 10 ∷ []) out out₁ out₂ h
+    (placed_more at next last (100 ∷ (digits 10 w c ++ 46 ∷ [])) (digits 10 v b ++ 10 ∷ []) out out₁ out₂ h
     (omega (arith, length-append (digits 10 w c) (46 ∷ []), length_digits 10 w c), q) (omega (arith, length-append (digits 10 v b) (10 ∷ []), length_digits 10 v b), q'))
 
 -- the index and a space, then the reply
-pub line-placed : (at next last i w : ℕ) (r : Reply) (out out₁ out₂ : List ℕ) → at ≤ length out → decimal 4 i ≡ digits 10 w i
-    → (next ≡ at + w + 1) × (out₁ ≡ place at (digits 10 w i ++ 32 ∷ []) out) → Placed next (replyLine r) out₁ last out₂
+pub line_placed : (at next last i w : ℕ) (r : Reply) (out out₁ out₂ : List ℕ) → at ≤ length out → decimal 4 i ≡ digits 10 w i
+    → (next ≡ at + w + 1) × (out₁ ≡ place at (digits 10 w i ++ 32 ∷ []) out) → Placed next (reply_line r) out₁ last out₂
     → Placed at (line i r) out last out₂
 unfolding line
-line-placed at next last i w r out out₁ out₂ h ei (p, q) second =
-    placed_same at last ((digits 10 w i ++ 32 ∷ []) ++ (replyLine r)) (line i r) out out₂
-    (append_assoc (digits 10 w i) (32 ∷ []) (replyLine r) ∙ (λ j. sym ei j ++ 32 ∷ replyLine r))
-    (placed-more at next last (digits 10 w i ++ 32 ∷ []) (replyLine r) out out₁ out₂ h
+line_placed at next last i w r out out₁ out₂ h ei (p, q) second =
+    placed_same at last ((digits 10 w i ++ 32 ∷ []) ++ (reply_line r)) (line i r) out out₂
+    (append_assoc (digits 10 w i) (32 ∷ []) (reply_line r) ∙ (λ j. sym ei j ++ 32 ∷ reply_line r))
+    (placed_more at next last (digits 10 w i ++ 32 ∷ []) (reply_line r) out out₁ out₂ h
     (omega (arith, length-append (digits 10 w i) (32 ∷ []), length_digits 10 w i), q) second)

@@ -6,9 +6,9 @@ ghost use Rattle.std.specs.Prelude.{◌≡◌, ◌+◌, ◌*◌, ◌/◌, ◌≤
 ghost use Rattle.spec_base.specs.Placing.{place};
 ghost use Rattle.spec_wire.specs.Frames.{frames};
 ghost use Rattle.spec_rack.specs.Lists.{replies, after};
-ghost use Rattle.spec_rackrun.specs.Rackrun.{lines, openingReply, openingAfter, stepsOffset, recordAfterRun};
-ghost use Rattle.spec_rack.specs.RecordLayout.{longestRecord};
-ghost use Rattle.spec_rackrun.specs.RuledText.{ruledText};
+ghost use Rattle.spec_rackrun.specs.Rackrun.{lines, opening_reply, opening_after, steps_offset, record_after_run};
+ghost use Rattle.spec_rack.specs.RecordLayout.{longest_record};
+ghost use Rattle.spec_rackrun.specs.RuledText.{ruled_text};
 
 use base::wide_at;
 use spec_rack::{LONGEST_RECORD, Reply};
@@ -35,8 +35,8 @@ fn put_steps(rec: &mut [u8], list: &[u8], out: &mut [u8], at: usize) -> usize
 
 // Opens a rack with the first three bytes of an input.
 fn open_from_input(rec: &mut [u8], input: &[u8]) -> Reply
-    ensures reply { result ≡ openingReply rec.old input.now }
-    ensures buffer { rec.new ≡ openingAfter rec.old input.now }
+    ensures reply { result ≡ opening_reply rec.old input.now }
+    ensures buffer { rec.new ≡ opening_after rec.old input.now }
 {
     if input.len() < 3 {
         return Reply::Refused(Refusal::Torn);
@@ -46,7 +46,7 @@ fn open_from_input(rec: &mut [u8], input: &[u8]) -> Reply
 
 // Where the steps start in an input of so many bytes: there are none where the opening was refused.
 fn steps_offset(reply: Reply, count: usize) -> usize
-    ensures { result ≡ stepsOffset reply count }
+    ensures { result ≡ steps_offset reply count }
 {
     match reply {
         Reply::Accepted(_) => 3,
@@ -64,9 +64,9 @@ fn used_input(count: usize) -> usize
 // Places the text of an input, which the rules alone decide, and gives its length. The record is in `rec`, which has room for the longest, so that no
 // opening is refused for want of room.
 fn put_text(input: &[u8], rec: &mut [u8], out: &mut [u8; 349536]) -> usize
-    requires { longestRecord ≤ length rec.old }
-    ensures text { (result ≡ length (ruledText input.now)) × (out.new ≡ place 0 (ruledText input.now) out.old) }
-    ensures buffer { rec.new ≡ recordAfterRun rec.old input.now }
+    requires { longest_record ≤ length rec.old }
+    ensures text { (result ≡ length (ruled_text input.now)) × (out.new ≡ place 0 (ruled_text input.now) out.old) }
+    ensures buffer { rec.new ≡ record_after_run rec.old input.now }
 {
     let count = used_input(input.len());
     let reply = open_from_input(rec, input);
@@ -77,8 +77,8 @@ fn put_text(input: &[u8], rec: &mut [u8], out: &mut [u8; 349536]) -> usize
 
 // The text of an input, at the front of `out`, and its length. The record is in `rec`, where the run leaves it; its type says that there is room.
 pub fn report(input: &[u8], rec: &mut [u8; LONGEST_RECORD], out: &mut [u8; 349536]) -> usize
-    ensures text { (result ≡ length (ruledText input.now)) × (out.new ≡ place 0 (ruledText input.now) out.old) }
-    ensures buffer { rec.new ≡ recordAfterRun rec.old input.now }
+    ensures text { (result ≡ length (ruled_text input.now)) × (out.new ≡ place 0 (ruled_text input.now) out.old) }
+    ensures buffer { rec.new ≡ record_after_run rec.old input.now }
 {
     put_text(input, rec, out)
 }

@@ -1,7 +1,7 @@
 // The lines that a program writes of replies.
 ghost use Rattle.std.specs.Prelude.{◌≡◌, ◌+◌, ◌≤◌, ◌<◌, [], ◌∷◌, ◌++◌, length};
 ghost use Rattle.spec_base.specs.Placing.{place};
-ghost use Rattle.spec_rackrun.specs.Rackrun.{digit, digits, decimal, replyLine, line};
+ghost use Rattle.spec_rackrun.specs.Rackrun.{digit, digits, decimal, reply_line, line};
 
 use spec_rack::{Answer, Reply};
 
@@ -65,7 +65,7 @@ fn put_number(
 // Places whom a deliver served, component, point and block, and the newline.
 fn put_served(out: &mut [u8], at: usize, component: u8, block: u8) -> usize
     requires { at + 10 ≤ length out.old }
-    ensures { (result ≡ at + length (replyLine (Reply.Accepted (Answer.Served component block)))) × (out.new ≡ place at (replyLine (Reply.Accepted (Answer.Served component block))) out.old) }
+    ensures { (result ≡ at + length (reply_line (Reply.Accepted (Answer.Served component block)))) × (out.new ≡ place at (reply_line (Reply.Accepted (Answer.Served component block))) out.old) }
 {
     let first = component as u64;
     let second = block as u64;
@@ -76,7 +76,7 @@ fn put_served(out: &mut [u8], at: usize, component: u8, block: u8) -> usize
 // Places `ok` and the newline.
 fn put_done(out: &mut [u8], at: usize) -> usize
     requires { at + 3 ≤ length out.old }
-    ensures { (result ≡ at + length (replyLine (Reply.Accepted Answer.Done))) × (out.new ≡ place at (replyLine (Reply.Accepted Answer.Done)) out.old) }
+    ensures { (result ≡ at + length (reply_line (Reply.Accepted Answer.Done))) × (out.new ≡ place at (reply_line (Reply.Accepted Answer.Done)) out.old) }
 {
     out[at] = b'o';
     out[at + 1] = b'k';
@@ -87,7 +87,7 @@ fn put_done(out: &mut [u8], at: usize) -> usize
 // Places the text of a reply and the newline.
 fn put_reply(out: &mut [u8], at: usize, reply: Reply) -> usize
     requires { at + 10 ≤ length out.old }
-    ensures { (result ≡ at + length (replyLine reply)) × (out.new ≡ place at (replyLine reply) out.old) }
+    ensures { (result ≡ at + length (reply_line reply)) × (out.new ≡ place at (reply_line reply) out.old) }
 {
     match reply {
         Reply::Accepted(answer) => match answer {

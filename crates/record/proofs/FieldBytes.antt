@@ -11,164 +11,164 @@ use lib.Seq.{get_or-take, get_or-drop}
 use lib.Dec.{eqb, ltb}
 use borrow.Author.Tests.{eq-eqb, eqb-true}
 use Rattle.spec_base.specs.Folds.{all_below, all, implies}
-use Rattle.spec_base.proofs.Tests.{and-true, implied, implies-of, lt-or-le}
-use Rattle.spec_base.proofs.Folds.{below_of, below-same}
-use Rattle.spec_base.specs.Layout.{slice, byte, flag, big, pair, items, wellFormedItems, zeroed}
-use Rattle.spec_base.proofs.Laws.{length-readItems}
-use Rattle.spec_base.proofs.Places.{read_byte, read-pair, formed_below}
+use Rattle.spec_base.proofs.Tests.{and_true, implied, implies_of, lt_or_le}
+use Rattle.spec_base.proofs.Folds.{below_of, below_same}
+use Rattle.spec_base.specs.Layout.{slice, byte, flag, big, pair, items, well_formed_items, zeroed}
+use Rattle.spec_base.proofs.Laws.{length_read_items}
+use Rattle.spec_base.proofs.Places.{read_byte, read_pair, formed_below}
 use Rattle.spec_rack.specs.Rack.{present}
-use Rattle.spec_rack.specs.RecordLayout.{claims, messageSize, messageOffset, blockSize, blockOffset, claimsOffset, ownerOf, toTokens, dirtyHasOwner, tokenBytes, tokens, words, endpoints, messageHeader, toMessage, message, tokenLanes, block, header, rackLayout, layout_of, blocksIn, boardsIn, formatMagic, format_in, claimsRoom, claimsSize, lanesSize, messagesIn, meshRoom, headerSize, targetOffset, messageBlockOffset, messagePlainOffset, messageOwnerOffset, dataOffset, messageDirtyOffset, messageZeroOffset, messageWordsOffset, wordsSize, laneSize}
-use Rattle.spec_rack.proofs.LayoutParts.{heading-size, words_size, message-size, lanes-size, claims-size, block_size, header-size, header-form, blockTokens, blockClaims, blockWords}
-use Rattle.spec_base.proofs.Padded.{formed-room, formed-zeroed, padded-read}
-use Rattle.spec_base.proofs.Forms.{formed-pair, formed-items, numbers-zero}
+use Rattle.spec_rack.specs.RecordLayout.{claims, message_size, message_offset, block_size, block_offset, claims_offset, owner_of, to_tokens, dirty_has_owner, token_bytes, tokens, words, endpoints, message_header, to_message, message, token_lanes, block, header, rack_layout, layout_of, blocks_in, boards_in, format_magic, format_in, claims_room, claims_size, lanes_size, messages_in, mesh_room, header_size, target_offset, message_block_offset, message_plain_offset, message_owner_offset, data_offset, message_dirty_offset, message_zero_offset, message_words_offset, words_size, lane_size}
+use Rattle.spec_rack.proofs.LayoutParts.{heading_size, words_size_lem, message_size_lem, lanes_size_lem, claims_size_lem, block_size_lem, header_size_lem, header_form, block_tokens, block_claims, block_words}
+use Rattle.spec_base.proofs.Padded.{formed_room, formed_zeroed, padded_read}
+use Rattle.spec_base.proofs.Forms.{formed_pair, formed_items, numbers_zero}
 
 -- ---- words
 
-pub words-eight : (t : List ℕ) → length (words.read t) ≡ 8
+pub words_eight : (t : List ℕ) → length (words.read t) ≡ 8
 unfolding words
-words-eight t = length-readItems (big 4) 8 t
+words_eight t = length_read_items (big 4) 8 t
 
 -- any bytes are words
-pub words-formed : (t : List ℕ) → words.wellFormed t ≡ true
+pub words_formed : (t : List ℕ) → words.well_formed t ≡ true
 unfolding words
-words-formed t = formed_below (big 4) 8 t ∙ below_of (λ i. true) 8 (λ i l. refl)
+words_formed t = formed_below (big 4) 8 t ∙ below_of (λ i. true) 8 (λ i l. refl)
 
 -- the words are all 0 where all their bytes are
-pub words-zero : (s : List ℕ) (at : ℕ) → all (eqb 0) (words.read (slice at wordsSize s)) ≡ all_below wordsSize (λ i. eqb (get_or s (at + i) 0) 0)
+pub words_zero : (s : List ℕ) (at : ℕ) → all (eqb 0) (words.read (slice at words_size s)) ≡ all_below words_size (λ i. eqb (get_or s (at + i) 0) 0)
 unfolding words
-words-zero s at =
-    numbers-zero 4 8 (slice at wordsSize s)
-    ∙ below-same (λ i. eqb (get_or (slice at wordsSize s) i 0) 0) (λ i. eqb (get_or s (at + i) 0) 0) wordsSize
-    (λ i l. ap (λ (n : ℕ). eqb n 0) (get_or-take wordsSize (drop at s) i 0 l ∙ get_or-drop at s i 0))
+words_zero s at =
+    numbers_zero 4 8 (slice at words_size s)
+    ∙ below_same (λ i. eqb (get_or (slice at words_size s) i 0) 0) (λ i. eqb (get_or s (at + i) 0) 0) words_size
+    (λ i l. ap (λ (n : ℕ). eqb n 0) (get_or-take words_size (drop at s) i 0 l ∙ get_or-drop at s i 0))
 
 -- ---- the owner's two flags
 
-pub present-is : (here dirty : Bool) → present (ownerOf here dirty) ≡ here
-present-is true true = refl
-present-is true false = refl
-present-is false d = refl
+pub present_is : (here dirty : Bool) → present (owner_of here dirty) ≡ here
+present_is true true = refl
+present_is true false = refl
+present_is false d = refl
 
 -- a mark beside an owner's byte: it stands only with the owner where it is no more
-pub dirty-most : (o d : ℕ) → d < 2 → implies (eqb d 1) (eqb o 1) ≡ true → d ≤ o
-dirty-most o d c q = ⊎_elim (λ z. omega arith) (λ z. omega (arith, eqb-true o 1 (implied (eqb d 1) (eqb o 1) q (eq-eqb d 1 (omega arith))))) (lt-or-le d 1)
+pub dirty_most : (o d : ℕ) → d < 2 → implies (eqb d 1) (eqb o 1) ≡ true → d ≤ o
+dirty_most o d c q = ⊎_elim (λ z. omega arith) (λ z. omega (arith, eqb-true o 1 (implied (eqb d 1) (eqb o 1) q (eq-eqb d 1 (omega arith))))) (lt_or_le d 1)
 
-pub dirty-only : (o d : ℕ) → o < 2 → d ≤ o → implies (eqb d 1) (eqb o 1) ≡ true
-dirty-only o d a c = implies-of (eqb d 1) (eqb o 1) (λ e. eq-eqb o 1 (omega (arith, eqb-true d 1 e)))
+pub dirty_only : (o d : ℕ) → o < 2 → d ≤ o → implies (eqb d 1) (eqb o 1) ≡ true
+dirty_only o d a c = implies_of (eqb d 1) (eqb o 1) (λ e. eq-eqb o 1 (omega (arith, eqb-true d 1 e)))
 
 -- ---- bytes and flags
 
 module _ (s : List ℕ) where
-  flag-read : (p q : ℕ) → p ≡ q → flag.read (slice p 1 s) ≡ eqb (get_or s q 0) 1
-  flag-read p q e = ap (λ (n : ℕ). eqb n 1) (read_byte p s) ∙ ap (λ (k : ℕ). eqb (get_or s k 0) 1) e
+  flag_read : (p q : ℕ) → p ≡ q → flag.read (slice p 1 s) ≡ eqb (get_or s q 0) 1
+  flag_read p q e = ap (λ (n : ℕ). eqb n 1) (read_byte p s) ∙ ap (λ (k : ℕ). eqb (get_or s k 0) 1) e
 
-  pub flag-formed : (p q : ℕ) → p ≡ q → flag.wellFormed (slice p 1 s) ≡ ltb (get_or s q 0) 2
-  flag-formed p q e = ap (λ (n : ℕ). ltb n 2) (read_byte p s) ∙ ap (λ (k : ℕ). ltb (get_or s k 0) 2) e
+  pub flag_formed : (p q : ℕ) → p ≡ q → flag.well_formed (slice p 1 s) ≡ ltb (get_or s q 0) 2
+  flag_formed p q e = ap (λ (n : ℕ). ltb n 2) (read_byte p s) ∙ ap (λ (k : ℕ). ltb (get_or s k 0) 2) e
 
-  byte-read : (p q : ℕ) → p ≡ q → byte.read (slice p 1 s) ≡ get_or s q 0
-  byte-read p q e = read_byte p s ∙ ap (λ (k : ℕ). get_or s k 0) e
+  byte_read : (p q : ℕ) → p ≡ q → byte.read (slice p 1 s) ≡ get_or s q 0
+  byte_read p q e = read_byte p s ∙ ap (λ (k : ℕ). get_or s k 0) e
 
 -- ---- a message at a place
 
 module _ (s : List ℕ) (at : ℕ) where
-  token-bytes-read : tokenBytes.read (slice (at + messagePlainOffset) 4 s)
-      ≡ (get_or s (at + messagePlainOffset) 0, (eqb (get_or s (at + messageOwnerOffset) 0) 1, (eqb (get_or s (at + dataOffset) 0) 1, eqb (get_or s (at + messageDirtyOffset) 0) 1)))
-  token-bytes-read =
-      read-pair byte (pair flag (pair flag flag)) (at + messagePlainOffset) s
+  token_bytes_read : token_bytes.read (slice (at + message_plain_offset) 4 s)
+      ≡ (get_or s (at + message_plain_offset) 0, (eqb (get_or s (at + message_owner_offset) 0) 1, (eqb (get_or s (at + data_offset) 0) 1, eqb (get_or s (at + message_dirty_offset) 0) 1)))
+  token_bytes_read =
+      read_pair byte (pair flag (pair flag flag)) (at + message_plain_offset) s
       ∙ (λ j. (
-        read_byte (at + messagePlainOffset) s j,
-        (read-pair flag (pair flag flag) (at + 3 + 1) s
+        read_byte (at + message_plain_offset) s j,
+        (read_pair flag (pair flag flag) (at + 3 + 1) s
             ∙ (λ k. (
-              flag-read s (at + 3 + 1) (at + messageOwnerOffset) (omega arith) k,
-              (read-pair flag flag (at + 3 + 1 + 1) s
-                  ∙ (λ l. (flag-read s (at + 3 + 1 + 1) (at + dataOffset) (omega arith) l, flag-read s (at + 3 + 1 + 1 + 1) (at + messageDirtyOffset) (omega arith) l))) k,
+              flag_read s (at + 3 + 1) (at + message_owner_offset) (omega arith) k,
+              (read_pair flag flag (at + 3 + 1 + 1) s
+                  ∙ (λ l. (flag_read s (at + 3 + 1 + 1) (at + data_offset) (omega arith) l, flag_read s (at + 3 + 1 + 1 + 1) (at + message_dirty_offset) (omega arith) l))) k,
             ))) j,
       ))
 
-  heading-read : messageHeader.read (slice at messageWordsOffset s)
-      ≡ ((get_or s at 0, (get_or s (at + targetOffset) 0, get_or s (at + messageBlockOffset) 0)), (get_or s (at + messagePlainOffset) 0, (ownerOf (eqb (get_or s (at + messageOwnerOffset) 0) 1) (eqb (get_or s (at + messageDirtyOffset) 0) 1), eqb (get_or s (at + dataOffset) 0) 1)))
-  unfolding messageHeader
-  heading-read =
-      padded-read 8 (pair endpoints tokens) (omega arith) at s zeroed
-      ∙ read-pair endpoints tokens at s
+  heading_read : message_header.read (slice at message_words_offset s)
+      ≡ ((get_or s at 0, (get_or s (at + target_offset) 0, get_or s (at + message_block_offset) 0)), (get_or s (at + message_plain_offset) 0, (owner_of (eqb (get_or s (at + message_owner_offset) 0) 1) (eqb (get_or s (at + message_dirty_offset) 0) 1), eqb (get_or s (at + data_offset) 0) 1)))
+  unfolding message_header
+  heading_read =
+      padded_read 8 (pair endpoints tokens) (omega arith) at s zeroed
+      ∙ read_pair endpoints tokens at s
       ∙ (λ i. (
-        (read-pair byte (pair byte byte) at s
-            ∙ (λ j. (read_byte at s j, (read-pair byte byte (at + targetOffset) s ∙ (λ k. (read_byte (at + targetOffset) s k, byte-read s (at + 1 + 1) (at + messageBlockOffset) (omega arith) k))) j))) i,
-        toTokens (token-bytes-read i),
+        (read_pair byte (pair byte byte) at s
+            ∙ (λ j. (read_byte at s j, (read_pair byte byte (at + target_offset) s ∙ (λ k. (read_byte (at + target_offset) s k, byte_read s (at + 1 + 1) (at + message_block_offset) (omega arith) k))) j))) i,
+        to_tokens (token_bytes_read i),
       ))
 
-  pub message-read : message.read (slice at messageSize s)
+  pub message_read : message.read (slice at message_size s)
       ≡ record {
         header =
             record {
               sender = get_or s at 0;
-              target = get_or s (at + targetOffset) 0;
-              block = get_or s (at + messageBlockOffset) 0;
-              plain = get_or s (at + messagePlainOffset) 0;
-              owner = ownerOf (eqb (get_or s (at + messageOwnerOffset) 0) 1) (eqb (get_or s (at + messageDirtyOffset) 0) 1);
-              «data» = eqb (get_or s (at + dataOffset) 0) 1;
+              target = get_or s (at + target_offset) 0;
+              block = get_or s (at + message_block_offset) 0;
+              plain = get_or s (at + message_plain_offset) 0;
+              owner = owner_of (eqb (get_or s (at + message_owner_offset) 0) 1) (eqb (get_or s (at + message_dirty_offset) 0) 1);
+              «data» = eqb (get_or s (at + data_offset) 0) 1;
             };
-        words = words.read (slice (at + messageWordsOffset) wordsSize s);
+        words = words.read (slice (at + message_words_offset) words_size s);
       }
   unfolding message
-  message-read =
-      ap toMessage
-      ((λ i. (pair messageHeader words).read (slice at (sym heading-size i + sym words_size i) s))
-      ∙ read-pair messageHeader words at s
-      ∙ (λ i. (messageHeader.read (slice at (heading-size i) s), words.read (slice (at + heading-size i) (words_size i) s)))
-      ∙ (λ i. (heading-read i, words.read (slice (at + messageWordsOffset) wordsSize s))))
+  message_read =
+      ap to_message
+      ((λ i. (pair message_header words).read (slice at (sym heading_size i + sym words_size_lem i) s))
+      ∙ read_pair message_header words at s
+      ∙ (λ i. (message_header.read (slice at (heading_size i) s), words.read (slice (at + heading_size i) (words_size_lem i) s)))
+      ∙ (λ i. (heading_read i, words.read (slice (at + message_words_offset) words_size s))))
 
   -- owner, data and dirty are flags, dirty only beside the owner, and the byte behind them is 0
-  pub message-formed : message.wellFormed (slice at messageSize s)
-      ≡ ((ltb (get_or s (at + messageOwnerOffset) 0) 2 && (ltb (get_or s (at + dataOffset) 0) 2 && ltb (get_or s (at + messageDirtyOffset) 0) 2)
-      && implies (eqb (get_or s (at + messageDirtyOffset) 0) 1) (eqb (get_or s (at + messageOwnerOffset) 0) 1))
-      && all_below 1 (λ i. eqb (get_or s (at + messageZeroOffset + i) 0) 0))
-  unfolding message messageHeader words
-  message-formed =
-      formed-pair messageHeader words at s
-      ∙ (λ i. messageHeader.wellFormed (slice at messageWordsOffset s) && words-formed (slice (at + messageWordsOffset) wordsSize s) i)
-      ∙ and-true (messageHeader.wellFormed (slice at messageWordsOffset s))
-      ∙ formed-zeroed 8 (pair endpoints tokens) (omega arith) at s
-      ∙ ap (λ (t : Bool). t && all_below 1 (λ i. eqb (get_or s (at + messageZeroOffset + i) 0) 0))
-      (formed-pair endpoints tokens at s
+  pub message_formed : message.well_formed (slice at message_size s)
+      ≡ ((ltb (get_or s (at + message_owner_offset) 0) 2 && (ltb (get_or s (at + data_offset) 0) 2 && ltb (get_or s (at + message_dirty_offset) 0) 2)
+      && implies (eqb (get_or s (at + message_dirty_offset) 0) 1) (eqb (get_or s (at + message_owner_offset) 0) 1))
+      && all_below 1 (λ i. eqb (get_or s (at + message_zero_offset + i) 0) 0))
+  unfolding message message_header words
+  message_formed =
+      formed_pair message_header words at s
+      ∙ (λ i. message_header.well_formed (slice at message_words_offset s) && words_formed (slice (at + message_words_offset) words_size s) i)
+      ∙ and_true (message_header.well_formed (slice at message_words_offset s))
+      ∙ formed_zeroed 8 (pair endpoints tokens) (omega arith) at s
+      ∙ ap (λ (t : Bool). t && all_below 1 (λ i. eqb (get_or s (at + message_zero_offset + i) 0) 0))
+      (formed_pair endpoints tokens at s
       ∙ (λ i.
-      (formed-pair byte (pair flag (pair flag flag)) (at + messagePlainOffset) s
-      ∙ formed-pair flag (pair flag flag) (at + 3 + 1) s
+      (formed_pair byte (pair flag (pair flag flag)) (at + message_plain_offset) s
+      ∙ formed_pair flag (pair flag flag) (at + 3 + 1) s
       ∙ (λ j.
-      flag-formed s (at + 3 + 1) (at + messageOwnerOffset) (omega arith) j
-      && (formed-pair flag flag (at + 3 + 1 + 1) s
-      ∙ (λ k. flag-formed s (at + 3 + 1 + 1) (at + dataOffset) (omega arith) k && flag-formed s (at + 3 + 1 + 1 + 1) (at + messageDirtyOffset) (omega arith) k)) j)) i
-      && dirtyHasOwner (token-bytes-read i)))
+      flag_formed s (at + 3 + 1) (at + message_owner_offset) (omega arith) j
+      && (formed_pair flag flag (at + 3 + 1 + 1) s
+      ∙ (λ k. flag_formed s (at + 3 + 1 + 1) (at + data_offset) (omega arith) k && flag_formed s (at + 3 + 1 + 1 + 1) (at + message_dirty_offset) (omega arith) k)) j)) i
+      && dirty_has_owner (token_bytes_read i)))
 
 -- ---- the record is of the layout's form where each message is, and of each block the lanes and the claims
 
 module _ (s : List ℕ) where
-  pub block-formed : (n at : ℕ) → n ≤ 15 → (block n).wellFormed (slice at blockSize s) ≡ ((tokenLanes n).wellFormed (slice at lanesSize s) && (claims n).wellFormed (slice (at + claimsOffset) claimsSize s))
+  pub block_formed : (n at : ℕ) → n ≤ 15 → (block n).well_formed (slice at block_size s) ≡ ((token_lanes n).well_formed (slice at lanes_size s) && (claims n).well_formed (slice (at + claims_offset) claims_size s))
   unfolding block
-  block-formed n at h =
-      ap (λ (z : ℕ). (block n).wellFormed (slice at z s)) (sym (block_size n))
-      ∙ formed-pair (blockTokens n) (pair (blockClaims n) (blockWords n)) at s
+  block_formed n at h =
+      ap (λ (z : ℕ). (block n).well_formed (slice at z s)) (sym (block_size_lem n))
+      ∙ formed_pair (block_tokens n) (pair (block_claims n) (block_words n)) at s
       ∙ (λ i.
-      (formed-room claimsOffset (tokenLanes n) (rw (lanes-size n) (omega arith)) at s ∙ ap (λ (z : ℕ). (tokenLanes n).wellFormed (slice at z s)) (lanes-size n)) i
-      && (formed-pair (blockClaims n) (blockWords n) (at + claimsOffset) s
-      ∙ (λ j. (blockClaims n).wellFormed (slice (at + claimsOffset) claimsRoom s) && all_words n (slice (at + claimsOffset + claimsRoom) (laneSize * words.size) s) j)
-      ∙ and-true ((blockClaims n).wellFormed (slice (at + claimsOffset) claimsRoom s))
-      ∙ formed-room claimsRoom (claims n) (rw (claims-size n) (omega arith)) (at + claimsOffset) s ∙ ap (λ (z : ℕ). (claims n).wellFormed (slice (at + claimsOffset) z s)) (claims-size n)) i)
+      (formed_room claims_offset (token_lanes n) (rw (lanes_size_lem n) (omega arith)) at s ∙ ap (λ (z : ℕ). (token_lanes n).well_formed (slice at z s)) (lanes_size_lem n)) i
+      && (formed_pair (block_claims n) (block_words n) (at + claims_offset) s
+      ∙ (λ j. (block_claims n).well_formed (slice (at + claims_offset) claims_room s) && all_words n (slice (at + claims_offset + claims_room) (lane_size * words.size) s) j)
+      ∙ and_true ((block_claims n).well_formed (slice (at + claims_offset) claims_room s))
+      ∙ formed_room claims_room (claims n) (rw (claims_size_lem n) (omega arith)) (at + claims_offset) s ∙ ap (λ (z : ℕ). (claims n).well_formed (slice (at + claims_offset) z s)) (claims_size_lem n)) i)
     where
-      all_words : (k : ℕ) (t : List ℕ) → wellFormedItems words (suc k) t ≡ true
-      all_words k t = formed_below words (suc k) t ∙ below_of (λ i. words.wellFormed (slice (i * words.size) words.size t)) (suc k) (λ i l. words-formed (slice (i * words.size) words.size t))
+      all_words : (k : ℕ) (t : List ℕ) → well_formed_items words (suc k) t ≡ true
+      all_words k t = formed_below words (suc k) t ∙ below_of (λ i. words.well_formed (slice (i * words.size) words.size t)) (suc k) (λ i l. words_formed (slice (i * words.size) words.size t))
 
-  pub record-formed : messagesIn s ≤ 64
-      → (layout_of s).wellFormed s
-      ≡ (eqb (format_in s) formatMagic && (all_below (messagesIn s) (λ i. message.wellFormed (slice (messageOffset i) messageSize s)) && all_below (blocksIn s) (λ b. (block (boardsIn s)).wellFormed (slice (blockOffset b) blockSize s))))
-  unfolding rackLayout
-  record-formed hm =
-      let n : ℕ = boardsIn s in
-      let b : ℕ = blocksIn s in
-      let m : ℕ = messagesIn s in
-      (λ i. header.wellFormed (take (header-size i) s) && (pair (items message meshRoom m) (items (block n) b b)).wellFormed (slice (header-size i) (meshRoom * message.size + b * (block n).size) s))
-      ∙ (λ i. header-form s i && formed-pair (items message meshRoom m) (items (block n) b b) headerSize s i)
-      ∙ ap (λ (w : Bool). eqb (format_in s) formatMagic && w)
+  pub record_formed : messages_in s ≤ 64
+      → (layout_of s).well_formed s
+      ≡ (eqb (format_in s) format_magic && (all_below (messages_in s) (λ i. message.well_formed (slice (message_offset i) message_size s)) && all_below (blocks_in s) (λ b. (block (boards_in s)).well_formed (slice (block_offset b) block_size s))))
+  unfolding rack_layout
+  record_formed hm =
+      let n : ℕ = boards_in s in
+      let b : ℕ = blocks_in s in
+      let m : ℕ = messages_in s in
+      (λ i. header.well_formed (take (header_size_lem i) s) && (pair (items message mesh_room m) (items (block n) b b)).well_formed (slice (header_size_lem i) (mesh_room * message.size + b * (block n).size) s))
+      ∙ (λ i. header_form s i && formed_pair (items message mesh_room m) (items (block n) b b) header_size s i)
+      ∙ ap (λ (w : Bool). eqb (format_in s) format_magic && w)
       (λ i.
-      formed-items message messageSize message-size meshRoom m headerSize s hm i
-      && (formed-items (block n) blockSize (block_size n) b b (headerSize + meshRoom * message.size) s (le_refl b)
-      ∙ (λ j. all_below b (λ k. (block n).wellFormed (slice (headerSize + meshRoom * message-size j + blockSize * k) blockSize s)))) i)
+      formed_items message message_size message_size_lem mesh_room m header_size s hm i
+      && (formed_items (block n) block_size (block_size_lem n) b b (header_size + mesh_room * message.size) s (le_refl b)
+      ∙ (λ j. all_below b (λ k. (block n).well_formed (slice (header_size + mesh_room * message_size_lem j + block_size * k) block_size s)))) i)

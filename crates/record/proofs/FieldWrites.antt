@@ -6,95 +6,95 @@ use mathlib.Core.Bool.{Bool}
 use mathlib.Core.List.{List, []}
 use lib.ListN.{length, set, take, length-set}
 use Rattle.spec_base.specs.Folds.{toℕ}
-use Rattle.spec_base.specs.Layout.{slice, modifyAt, byte, flag, pair, zeroed}
-use Rattle.spec_base.proofs.Laws.{byte-lawful, flag-lawful, pair-lawful, cuts-length}
-use Rattle.spec_base.proofs.Places.{write_byte, write-pair}
-use Rattle.spec_base.proofs.WordBytes.{cover-first, cover-none}
+use Rattle.spec_base.specs.Layout.{slice, modify_at, byte, flag, pair, zeroed}
+use Rattle.spec_base.proofs.Laws.{byte_lawful, flag_lawful, pair_lawful, cuts_length}
+use Rattle.spec_base.proofs.Places.{write_byte, write_pair}
+use Rattle.spec_base.proofs.WordBytes.{cover_first, cover_none}
 use Rattle.spec_rack.specs.declared.Owner.{Owner}
 use Rattle.spec_rack.specs.declared.Message.{Message}
 use Rattle.spec_rack.specs.Rack.{present}
-use Rattle.spec_rack.specs.RecordLayout.{Tokens, dirty, tokenBytes, tokens, words, Endpoints, endpoints, messageHeader, fromMessage, message, messageSize, targetOffset, messageBlockOffset, messagePlainOffset, messageZeroOffset, messageWordsOffset, wordsSize}
-use Rattle.spec_rack.proofs.LayoutParts.{ends-lawful, tokens-lawful, heading-lawful, heading-size, words_size}
+use Rattle.spec_rack.specs.RecordLayout.{Tokens, dirty, token_bytes, tokens, words, Endpoints, endpoints, message_header, from_message, message, message_size, target_offset, message_block_offset, message_plain_offset, message_zero_offset, message_words_offset, words_size}
+use Rattle.spec_rack.proofs.LayoutParts.{ends_lawful, tokens_lawful, heading_lawful, heading_size, words_size_lem}
 
 -- ---- written
 
-over-length : (p n : ℕ) (f : List ℕ → List ℕ) (s : List ℕ) → length (f (slice p n s)) ≡ length (slice p n s) → length (modifyAt p n f s) ≡ length s
-over-length p n f s e = cuts-length p n (take p s) (f (slice p n s)) s refl e
+over_length : (p n : ℕ) (f : List ℕ → List ℕ) (s : List ℕ) → length (f (slice p n s)) ≡ length (slice p n s) → length (modify_at p n f s) ≡ length s
+over_length p n f s e = cuts_length p n (take p s) (f (slice p n s)) s refl e
 
 -- tokens, one byte after the other
-token-bytes-write : (p n : ℕ) (o v d : Bool) (s : List ℕ) → p + 4 ≤ length s
-    → set (set (set (set s p n) (p + 1) (toℕ o)) (p + 2) (toℕ v)) (p + 3) (toℕ d) ≡ modifyAt p 4 (tokenBytes.write (n, (o, (v, d)))) s
-token-bytes-write p n o v d s l =
+token_bytes_write : (p n : ℕ) (o v d : Bool) (s : List ℕ) → p + 4 ≤ length s
+    → set (set (set (set s p n) (p + 1) (toℕ o)) (p + 2) (toℕ v)) (p + 3) (toℕ d) ≡ modify_at p 4 (token_bytes.write (n, (o, (v, d)))) s
+token_bytes_write p n o v d s l =
     let s₁ : List ℕ = set s p n in
     let s₂ : List ℕ = set s₁ (p + 1) (toℕ o) in
     let s₃ : List ℕ = set s₂ (p + 2) (toℕ v) in
     let p₂ : p + 1 + 1 ≡ p + 2 = omega arith in
     let p₃ : p + 2 + 1 ≡ p + 3 = omega arith in
     sym
-    (write-pair byte (pair flag (pair flag flag)) p s byte-lawful (n, (o, (v, d))) l
-    ∙ ap (modifyAt (p + 1) 3 ((pair flag (pair flag flag)).write (o, (v, d)))) (sym (write_byte p n s (omega arith)))
-    ∙ write-pair flag (pair flag flag) (p + 1) s₁ flag-lawful (o, (v, d)) (simp length-set (omega arith))
-    ∙ ap (modifyAt (p + 1 + 1) 2 ((pair flag flag).write (v, d))) (sym (write_byte (p + 1) (toℕ o) s₁ (simp length-set (omega arith))))
-    ∙ ap (λ (q : ℕ). modifyAt q 2 ((pair flag flag).write (v, d)) s₂) p₂
-    ∙ write-pair flag flag (p + 2) s₂ flag-lawful (v, d) (simp length-set (omega arith))
-    ∙ ap (modifyAt (p + 2 + 1) 1 (flag.write d)) (sym (write_byte (p + 2) (toℕ v) s₂ (simp length-set (omega arith))))
-    ∙ ap (λ (q : ℕ). modifyAt q 1 (flag.write d) s₃) p₃
+    (write_pair byte (pair flag (pair flag flag)) p s byte_lawful (n, (o, (v, d))) l
+    ∙ ap (modify_at (p + 1) 3 ((pair flag (pair flag flag)).write (o, (v, d)))) (sym (write_byte p n s (omega arith)))
+    ∙ write_pair flag (pair flag flag) (p + 1) s₁ flag_lawful (o, (v, d)) (simp length-set (omega arith))
+    ∙ ap (modify_at (p + 1 + 1) 2 ((pair flag flag).write (v, d))) (sym (write_byte (p + 1) (toℕ o) s₁ (simp length-set (omega arith))))
+    ∙ ap (λ (q : ℕ). modify_at q 2 ((pair flag flag).write (v, d)) s₂) p₂
+    ∙ write_pair flag flag (p + 2) s₂ flag_lawful (v, d) (simp length-set (omega arith))
+    ∙ ap (modify_at (p + 2 + 1) 1 (flag.write d)) (sym (write_byte (p + 2) (toℕ v) s₂ (simp length-set (omega arith))))
+    ∙ ap (λ (q : ℕ). modify_at q 1 (flag.write d) s₃) p₃
     ∙ sym (write_byte (p + 3) (toℕ d) s₃ (simp length-set (omega arith))))
 
-pub tokens-write : (p n : ℕ) (o : Owner) (v : Bool) (s : List ℕ) → p + 4 ≤ length s
-    → set (set (set (set s p n) (p + 1) (toℕ (present o))) (p + 2) (toℕ v)) (p + 3) (toℕ (dirty o)) ≡ modifyAt p 4 (tokens.write (n, (o, v))) s
-tokens-write p n o v s l = token-bytes-write p n (present o) v (dirty o) s l
+pub tokens_write : (p n : ℕ) (o : Owner) (v : Bool) (s : List ℕ) → p + 4 ≤ length s
+    → set (set (set (set s p n) (p + 1) (toℕ (present o))) (p + 2) (toℕ v)) (p + 3) (toℕ (dirty o)) ≡ modify_at p 4 (tokens.write (n, (o, v))) s
+tokens_write p n o v s l = token_bytes_write p n (present o) v (dirty o) s l
 
-ends-write : (p a b c : ℕ) (s : List ℕ) → p + 3 ≤ length s → set (set (set s p a) (p + 1) b) (p + 2) c ≡ modifyAt p 3 (endpoints.write (a, (b, c))) s
-ends-write p a b c s l =
+ends_write : (p a b c : ℕ) (s : List ℕ) → p + 3 ≤ length s → set (set (set s p a) (p + 1) b) (p + 2) c ≡ modify_at p 3 (endpoints.write (a, (b, c))) s
+ends_write p a b c s l =
     let s₁ : List ℕ = set s p a in
     let s₂ : List ℕ = set s₁ (p + 1) b in
     let p₂ : p + 1 + 1 ≡ p + 2 = omega arith in
     sym
-    (write-pair byte (pair byte byte) p s byte-lawful (a, (b, c)) l
-    ∙ ap (modifyAt (p + 1) 2 ((pair byte byte).write (b, c))) (sym (write_byte p a s (omega arith)))
-    ∙ write-pair byte byte (p + 1) s₁ byte-lawful (b, c) (simp length-set (omega arith))
-    ∙ ap (modifyAt (p + 1 + 1) 1 (byte.write c)) (sym (write_byte (p + 1) b s₁ (simp length-set (omega arith))))
-    ∙ ap (λ (q : ℕ). modifyAt q 1 (byte.write c) s₂) p₂
+    (write_pair byte (pair byte byte) p s byte_lawful (a, (b, c)) l
+    ∙ ap (modify_at (p + 1) 2 ((pair byte byte).write (b, c))) (sym (write_byte p a s (omega arith)))
+    ∙ write_pair byte byte (p + 1) s₁ byte_lawful (b, c) (simp length-set (omega arith))
+    ∙ ap (modify_at (p + 1 + 1) 1 (byte.write c)) (sym (write_byte (p + 1) b s₁ (simp length-set (omega arith))))
+    ∙ ap (λ (q : ℕ). modify_at q 1 (byte.write c) s₂) p₂
     ∙ sym (write_byte (p + 2) c s₂ (simp length-set (omega arith))))
 
 -- a byte made 0
-zero-write : (p : ℕ) (s : List ℕ) → p + 1 ≤ length s → set s p 0 ≡ modifyAt p 1 ((zeroed 1).write tt) s
-zero-write p s l = sym (cover-first 0 [] s p 0 (omega arith) ∙ cover-none (set s p 0) (p + 1))
+zero_write : (p : ℕ) (s : List ℕ) → p + 1 ≤ length s → set s p 0 ≡ modify_at p 1 ((zeroed 1).write tt) s
+zero_write p s l = sym (cover_first 0 [] s p 0 (omega arith) ∙ cover_none (set s p 0) (p + 1))
 
 -- sender, target, block and tokens, and the byte behind them
-heading-write : (p : ℕ) (v : Endpoints × Tokens) (s : List ℕ) → p + 8 ≤ length s
-    → set (modifyAt (p + messagePlainOffset) 4 (tokens.write v.1) (modifyAt p 3 (endpoints.write v.0) s)) (p + messageZeroOffset) 0
-    ≡ modifyAt p messageWordsOffset (messageHeader.write v) s
-unfolding messageHeader
-heading-write p v s l =
-    let s₁ : List ℕ = modifyAt p 3 (endpoints.write v.0) s in
-    let s₂ : List ℕ = modifyAt (p + messagePlainOffset) 4 (tokens.write v.1) s₁ in
-    let l₁ : length s₁ ≡ length s = over-length p 3 (endpoints.write v.0) s (ends-lawful.keeps v.0 (slice p 3 s)) in
-    let l₂ : length s₂ ≡ length s₁ = over-length (p + messagePlainOffset) 4 (tokens.write v.1) s₁ (tokens-lawful.keeps v.1 (slice (p + messagePlainOffset) 4 s₁)) in
-    zero-write (p + messageZeroOffset) s₂ (omega arith)
-    ∙ ap (modifyAt (p + messageZeroOffset) 1 ((zeroed 1).write tt)) (sym (write-pair endpoints tokens p s ends-lawful v (omega arith)))
-    ∙ sym (write-pair (pair endpoints tokens) (zeroed 1) p s (pair-lawful endpoints tokens ends-lawful tokens-lawful) (v, tt) l)
+heading_write : (p : ℕ) (v : Endpoints × Tokens) (s : List ℕ) → p + 8 ≤ length s
+    → set (modify_at (p + message_plain_offset) 4 (tokens.write v.1) (modify_at p 3 (endpoints.write v.0) s)) (p + message_zero_offset) 0
+    ≡ modify_at p message_words_offset (message_header.write v) s
+unfolding message_header
+heading_write p v s l =
+    let s₁ : List ℕ = modify_at p 3 (endpoints.write v.0) s in
+    let s₂ : List ℕ = modify_at (p + message_plain_offset) 4 (tokens.write v.1) s₁ in
+    let l₁ : length s₁ ≡ length s = over_length p 3 (endpoints.write v.0) s (ends_lawful.keeps v.0 (slice p 3 s)) in
+    let l₂ : length s₂ ≡ length s₁ = over_length (p + message_plain_offset) 4 (tokens.write v.1) s₁ (tokens_lawful.keeps v.1 (slice (p + message_plain_offset) 4 s₁)) in
+    zero_write (p + message_zero_offset) s₂ (omega arith)
+    ∙ ap (modify_at (p + message_zero_offset) 1 ((zeroed 1).write tt)) (sym (write_pair endpoints tokens p s ends_lawful v (omega arith)))
+    ∙ sym (write_pair (pair endpoints tokens) (zeroed 1) p s (pair_lawful endpoints tokens ends_lawful tokens_lawful) (v, tt) l)
 
-pub message-write : (p : ℕ) (m : Message) (s : List ℕ) → p + messageSize ≤ length s
-    → modifyAt (p + messageWordsOffset) wordsSize (words.write m.words)
+pub message_write : (p : ℕ) (m : Message) (s : List ℕ) → p + message_size ≤ length s
+    → modify_at (p + message_words_offset) words_size (words.write m.words)
     (set
-    (modifyAt (p + messagePlainOffset) 4 (tokens.write (m.header.plain, (m.header.owner, m.header.«data»)))
-    (set (set (set s p m.header.sender) (p + targetOffset) m.header.target) (p + messageBlockOffset) m.header.block))
-    (p + messageZeroOffset) 0)
-    ≡ modifyAt p messageSize (message.write m) s
+    (modify_at (p + message_plain_offset) 4 (tokens.write (m.header.plain, (m.header.owner, m.header.«data»)))
+    (set (set (set s p m.header.sender) (p + target_offset) m.header.target) (p + message_block_offset) m.header.block))
+    (p + message_zero_offset) 0)
+    ≡ modify_at p message_size (message.write m) s
 unfolding message
-message-write p m s l =
-    let v : Endpoints × Tokens = (fromMessage m).0 in
+message_write p m s l =
+    let v : Endpoints × Tokens = (from_message m).0 in
     ap
-    (λ (t : List ℕ). modifyAt (p + messageWordsOffset) wordsSize (words.write m.words) (set (modifyAt (p + messagePlainOffset) 4 (tokens.write v.1) t) (p + messageZeroOffset) 0))
-    (ends-write p m.header.sender m.header.target m.header.block s (omega arith))
-    ∙ ap (modifyAt (p + messageWordsOffset) wordsSize (words.write m.words)) (heading-write p v s (omega arith))
-    ∙ (λ i. modifyAt (p + sym heading-size i) (sym words_size i) (words.write m.words) (modifyAt p (sym heading-size i) (messageHeader.write v) s))
-    ∙ sym (write-pair messageHeader words p s heading-lawful (fromMessage m) (rw (heading-size, words_size) l))
-    ∙ (λ i. modifyAt p (heading-size i + words_size i) (message.write m) s)
+    (λ (t : List ℕ). modify_at (p + message_words_offset) words_size (words.write m.words) (set (modify_at (p + message_plain_offset) 4 (tokens.write v.1) t) (p + message_zero_offset) 0))
+    (ends_write p m.header.sender m.header.target m.header.block s (omega arith))
+    ∙ ap (modify_at (p + message_words_offset) words_size (words.write m.words)) (heading_write p v s (omega arith))
+    ∙ (λ i. modify_at (p + sym heading_size i) (sym words_size_lem i) (words.write m.words) (modify_at p (sym heading_size i) (message_header.write v) s))
+    ∙ sym (write_pair message_header words p s heading_lawful (from_message m) (rw (heading_size, words_size_lem) l))
+    ∙ (λ i. modify_at p (heading_size i + words_size_lem i) (message.write m) s)
 
 -- ---- what the functions on messages cite
 
-pub same-three : (s : List ℕ) (p a b c : ℕ) → length (set (set (set s p a) (p + 1) b) (p + 2) c) ≡ length s
-same-three s p a b c = simp length-set
+pub same_three : (s : List ℕ) (p a b c : ℕ) → length (set (set (set s p a) (p + 1) b) (p + 2) c) ≡ length s
+same_three s p a b c = simp length-set

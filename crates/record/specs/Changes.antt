@@ -2,7 +2,7 @@
 use Rattle.std.specs.Prelude.{ℕ, ◌≡◌, List}
 use Rattle.spec_rack.specs.declared.Message.{Message}
 use Rattle.spec_rack.specs.Rack.{Cell, Rack}
-use Rattle.spec_rack.specs.Rules.{withCell}
+use Rattle.spec_rack.specs.Rules.{with_cell}
 use Rattle.record.specs.declared.TokenState.{TokenState}
 
 -- a cell's plain count, owner and valid mark, as the code has them
@@ -12,16 +12,16 @@ pub record TokenStateOf (x : Cell) (h : TokenState) : Type 0 where
   pub valid : h.valid ≡ x.valid
 
 -- the cell with other marks and the same words, and with the same marks and other words
-abbrev pub withTokenState : Cell → TokenState → Cell
-withTokenState x h = record { plain = h.plain; owner = h.owner; valid = h.valid; words = x.words }
+abbrev pub with_token_state : Cell → TokenState → Cell
+with_token_state x h = record { plain = h.plain; owner = h.owner; valid = h.valid; words = x.words }
 
 abbrev pub with_words : Cell → List ℕ → Cell
 with_words x ws = record { plain = x.plain; owner = x.owner; valid = x.valid; words = ws }
 
 -- a rack with another cell
-abbrev pub replaceCell : Rack → ℕ → ℕ → Cell → Rack
-replaceCell r b c x = withCell r b c x r.mesh
+abbrev pub replace_cell : Rack → ℕ → ℕ → Cell → Rack
+replace_cell r b c x = with_cell r b c x r.mesh
 
 -- a rack with another mesh
-abbrev pub withMesh : Rack → List Message → Rack
-withMesh r ms = record { boards = r.boards; tokens = r.tokens; blocks = r.blocks; mesh = ms }
+abbrev pub with_mesh : Rack → List Message → Rack
+with_mesh r ms = record { boards = r.boards; tokens = r.tokens; blocks = r.blocks; mesh = ms }

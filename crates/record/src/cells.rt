@@ -2,9 +2,9 @@
 ghost use Rattle.std.specs.Prelude.{◌≡◌, true, ◌+◌, ◌*◌, ◌<◌, get_or};
 ghost use Rattle.spec_rack.specs.Rack.{present, cell_at};
 ghost use Rattle.spec_rack.specs.Rules.{stored};
-ghost use Rattle.spec_rack.specs.RecordLayout.{blockOffset, cellWordsOffset, get, put};
+ghost use Rattle.spec_rack.specs.RecordLayout.{block_offset, cell_words_offset, get, put};
 ghost use Rattle.record.specs.Needs.{CellInRecord};
-ghost use Rattle.record.specs.Changes.{TokenStateOf, withTokenState, replaceCell};
+ghost use Rattle.record.specs.Changes.{TokenStateOf, with_token_state, replace_cell};
 
 use super::{TokenState, owner, tokens, words};
 use base::byte_at;
@@ -15,14 +15,14 @@ use spec_rack::{
 
 // The offset of a component's plain count in a block.
 pub fn plain_offset(block: u8, component: u8) -> usize
-    ensures { result ≡ blockOffset block + component }
+    ensures { result ≡ block_offset block + component }
 {
     BLOCKS_OFFSET + BLOCK_SIZE * (block as usize) + component as usize
 }
 
 // The offset of a component's words in a block.
 pub fn words_offset(block: u8, component: u8) -> usize
-    ensures { result ≡ cellWordsOffset block component }
+    ensures { result ≡ cell_words_offset block component }
 {
     BLOCKS_OFFSET + BLOCK_SIZE * (block as usize) + WORDS_OFFSET + WORDS_SIZE * (component as usize)
 }
@@ -46,7 +46,7 @@ pub fn token_state(rec: &[u8], block: u8, component: u8) -> TokenState
 // Writes a cell's token state; its words stay.
 pub fn set_token_state(rec: &mut [u8], block: u8, component: u8, state: TokenState)
     requires { CellInRecord rec.old block component }
-    ensures { rec.new ≡ put (replaceCell (get rec.old) block component (withTokenState (cell_at (get rec.old) block component) state)) rec.old }
+    ensures { rec.new ≡ put (replace_cell (get rec.old) block component (with_token_state (cell_at (get rec.old) block component) state)) rec.old }
 {
     let at = plain_offset(block, component);
     tokens::put_lanes(rec, at, state);

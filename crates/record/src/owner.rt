@@ -1,13 +1,13 @@
 // The owner token's two flags: whether it is there, and whether its mark is dirty.
 ghost use Rattle.std.specs.Prelude.{◌≡◌};
 ghost use Rattle.spec_rack.specs.Rack.{present, clean};
-ghost use Rattle.spec_rack.specs.RecordLayout.{ownerOf, dirty};
+ghost use Rattle.spec_rack.specs.RecordLayout.{owner_of, dirty};
 
 use spec_rack::Owner;
 
 // The owner that two flags tell; where it is away, the second tells nothing.
 pub fn owner_of(here: bool, dirty: bool) -> Owner
-    ensures { result ≡ ownerOf here dirty }
+    ensures { result ≡ owner_of here dirty }
 {
     if here {
         if dirty {

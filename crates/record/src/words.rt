@@ -1,14 +1,14 @@
 // Words of four bytes, the high byte first.
 ghost use Rattle.std.specs.Prelude.{◌≡◌, ◌+◌, ◌*◌, ◌≤◌, ◌<◌, length};
-ghost use Rattle.spec_base.specs.Layout.{slice, modifyAt};
-ghost use Rattle.spec_rack.specs.RecordLayout.{words, wordsSize};
+ghost use Rattle.spec_base.specs.Layout.{slice, modify_at};
+ghost use Rattle.spec_rack.specs.RecordLayout.{words, words_size};
 
 use base::numbers::{put_u32, u32_at};
 
 // The eight words at `at`.
 pub fn words_at(s: &[u8], at: usize) -> [u32; 8]
-    requires { at + wordsSize ≤ length s.now }
-    ensures { result ≡ words.read (slice at wordsSize s.now) }
+    requires { at + words_size ≤ length s.now }
+    ensures { result ≡ words.read (slice at words_size s.now) }
 {
     let mut out = [0u32; 8];
     let mut i: usize = 0;
@@ -21,8 +21,8 @@ pub fn words_at(s: &[u8], at: usize) -> [u32; 8]
 
 // Writes eight words at `at`.
 pub fn put_words(s: &mut [u8], at: usize, values: [u32; 8])
-    requires { at + wordsSize ≤ length s.old }
-    ensures { s.new ≡ modifyAt at wordsSize (words.write values) s.old }
+    requires { at + words_size ≤ length s.old }
+    ensures { s.new ≡ modify_at at words_size (words.write values) s.old }
 {
     let mut i: usize = 0;
     while i < 8 {

@@ -2,8 +2,8 @@
 ghost use Rattle.std.specs.Prelude.{◌≡◌, not, ◌&&◌, ℕ, ◌+◌, ◌*◌, ◌-◌, ◌≤◌, ◌<◌, eqb, leb, length, get_or};
 ghost use Rattle.std.specs.Int.Bits.{bit_or};
 ghost use Rattle.spec_base.specs.Folds.{toℕ, all_below};
-ghost use Rattle.spec_rack.specs.RecordLayout.{ownerOffset, blockOffset, recordLength, lanesSize};
-ghost use Rattle.record_lanes.specs.Lanes.{soundLanes, unusedLanesEmpty, laneSum, low_first};
+ghost use Rattle.spec_rack.specs.RecordLayout.{owner_offset, block_offset, record_length, lanes_size};
+ghost use Rattle.record_lanes.specs.Lanes.{sound_lanes, unused_lanes_empty, lane_sum, low_first};
 
 use base::{both, either, wide};
 use spec_rack::{BLOCK_SIZE, BLOCKS_OFFSET, DIRTY_OFFSET, LANE_SIZE, OWNER_OFFSET, VALID_OFFSET};
@@ -11,7 +11,7 @@ use spec_rack::{BLOCK_SIZE, BLOCKS_OFFSET, DIRTY_OFFSET, LANE_SIZE, OWNER_OFFSET
 // The sum of the sixteen bytes at `at`.
 pub fn sum16(s: &[u8], at: usize) -> u32
     requires { at + 16 ≤ length s.now }
-    ensures { (result ≡ laneSum s.now at) × (result ≤ 4080) }
+    ensures { (result ≡ lane_sum s.now at) × (result ≤ 4080) }
 {
     let mut sum: u32 = 0;
     let mut i: usize = 0;
@@ -42,8 +42,8 @@ fn lane_sound(plain: u8, owner: u8, valid: u8, dirty: u8) -> bool
 
 // Whether the marks at all sixteen places are sound.
 fn lanes_sound(s: &[u8], at: usize) -> bool
-    requires { at + lanesSize ≤ length s.now }
-    ensures { result ≡ soundLanes s.now at }
+    requires { at + lanes_size ≤ length s.now }
+    ensures { result ≡ sound_lanes s.now at }
 {
     let mut fine = true;
     let mut component: usize = 0;
@@ -62,8 +62,8 @@ fn lanes_sound(s: &[u8], at: usize) -> bool
 
 // Whether the marks of all blocks are sound.
 pub fn all_lanes_sound(s: &[u8], count: usize) -> bool
-    requires { (count ≤ 32) × (recordLength count ≤ length s.now) }
-    ensures { result ≡ all_below count (λ b. soundLanes s.now (blockOffset b)) }
+    requires { (count ≤ 32) × (record_length count ≤ length s.now) }
+    ensures { result ≡ all_below count (λ b. sound_lanes s.now (block_offset b)) }
 {
     let mut b: usize = 0;
     while b < count {
@@ -100,7 +100,7 @@ fn eight(s: &[u8], at: usize) -> u64
 // Joins the plain counts and owners of eight components of a block to what was seen of them in other blocks.
 fn gather_holders(s: &[u8], at: usize, seen: u64) -> u64
     requires { at + 24 ≤ length s.now }
-    ensures { result ≡ bit_or (bit_or seen (low_first (λ i. get_or s.now (at + i) 0) 8)) (low_first (λ i. get_or s.now (at + ownerOffset + i) 0) 8) }
+    ensures { result ≡ bit_or (bit_or seen (low_first (λ i. get_or s.now (at + i) 0) 8)) (low_first (λ i. get_or s.now (at + owner_offset + i) 0) 8) }
 {
     let plain = eight(s, at);
     let owner = eight(s, at + OWNER_OFFSET);
@@ -110,8 +110,8 @@ fn gather_holders(s: &[u8], at: usize, seen: u64) -> u64
 // Whether components above the last board hold nothing in any block: what was seen in all blocks is looked at once, in two halves of eight places.
 // A lane has 16 places, so with 15 boards there is no such component.
 pub fn unused_lanes_empty(s: &[u8], count: usize, boards: u8) -> bool
-    requires { (boards < 16) × (count ≤ 32) × (recordLength count ≤ length s.now) }
-    ensures { result ≡ all_below count (λ b. unusedLanesEmpty boards s.now (blockOffset b)) }
+    requires { (boards < 16) × (count ≤ 32) × (record_length count ≤ length s.now) }
+    ensures { result ≡ all_below count (λ b. unused_lanes_empty boards s.now (block_offset b)) }
 {
     if boards == 15 {
         return true;

@@ -3,13 +3,13 @@
 pub mod bytes;
 
 ghost use Rattle.std.specs.Prelude.{◌≡◌, [], ◌∷◌, ◌++◌, ◌+◌, ◌*◌, ◌≤◌, ◌<◌, length};
-ghost use Rattle.spec_base.specs.Folds.{removeAt};
-ghost use Rattle.spec_base.specs.Layout.{slice, modifyAt};
-ghost use Rattle.spec_rack.specs.Rack.{cell_at, messageAt};
-ghost use Rattle.spec_rack.specs.RecordLayout.{messageOffset, messageSize, messageWordsOffset, cellWordsOffset, wordsSize, message, get, put, messagesIn};
+ghost use Rattle.spec_base.specs.Folds.{remove_at};
+ghost use Rattle.spec_base.specs.Layout.{slice, modify_at};
+ghost use Rattle.spec_rack.specs.Rack.{cell_at, message_at};
+ghost use Rattle.spec_rack.specs.RecordLayout.{message_offset, message_size, message_words_offset, cell_words_offset, words_size, message, get, put, messages_in};
 ghost use Rattle.spec_rack.specs.WordCopy.{WordsCopied};
 ghost use Rattle.record.specs.Needs.{InLayout, CellInRecord};
-ghost use Rattle.record.specs.Changes.{with_words, replaceCell, withMesh};
+ghost use Rattle.record.specs.Changes.{with_words, replace_cell, with_mesh};
 
 use base::byte_at;
 use record::{TokenState, cells, owner, tokens, words};
@@ -21,15 +21,15 @@ use spec_rack::{
 
 // The offset of the message at a position.
 pub fn message_offset(position: u8) -> usize
-    ensures { result ≡ messageOffset position }
+    ensures { result ≡ message_offset position }
 {
     HEADER_SIZE + MESSAGE_SIZE * (position as usize)
 }
 
 // The header of the message at a position.
 pub fn header_at(rec: &[u8], position: u8) -> MessageHeader
-    requires { InLayout rec.now × (position < messagesIn rec.now) }
-    ensures { result ≡ (messageAt (get rec.now) position).header }
+    requires { InLayout rec.now × (position < messages_in rec.now) }
+    ensures { result ≡ (message_at (get rec.now) position).header }
 {
     let at = message_offset(position);
     MessageHeader {
@@ -47,10 +47,10 @@ pub fn header_at(rec: &[u8], position: u8) -> MessageHeader
 
 // Copies the words of the message at a position to a component's words: each byte is read once and written once.
 pub fn copy_words(rec: &mut [u8], position: u8, block: u8, component: u8)
-    requires { CellInRecord rec.old block component × (position < messagesIn rec.old) }
-    ensures bytes { rec.new ≡ modifyAt (cellWordsOffset block component) wordsSize (λ t. slice (messageOffset position + messageWordsOffset) wordsSize rec.old) rec.old }
+    requires { CellInRecord rec.old block component × (position < messages_in rec.old) }
+    ensures bytes { rec.new ≡ modify_at (cell_words_offset block component) words_size (λ t. slice (message_offset position + message_words_offset) words_size rec.old) rec.old }
     ensures words { WordsCopied rec.old position block component rec.new }
-    ensures rack { rec.new ≡ put (replaceCell (get rec.old) block component (with_words (cell_at (get rec.old) block component) (messageAt (get rec.old) position).words)) rec.old }
+    ensures rack { rec.new ≡ put (replace_cell (get rec.old) block component (with_words (cell_at (get rec.old) block component) (message_at (get rec.old) position).words)) rec.old }
 {
     let from = message_offset(position) + MESSAGE_WORDS_OFFSET;
     let to = cells::words_offset(block, component);
@@ -59,8 +59,8 @@ pub fn copy_words(rec: &mut [u8], position: u8, block: u8, component: u8)
 
 // Writes a message at `at`.
 fn put_message(s: &mut [u8], at: usize, m: Message)
-    requires { at + messageSize ≤ length s.old }
-    ensures { s.new ≡ modifyAt at messageSize (message.write m) s.old }
+    requires { at + message_size ≤ length s.old }
+    ensures { s.new ≡ modify_at at message_size (message.write m) s.old }
 {
     let header = m.header;
     let token = header.owner;
@@ -83,8 +83,8 @@ fn put_message(s: &mut [u8], at: usize, m: Message)
 
 // One message more, as the newest.
 pub fn append(rec: &mut [u8], m: Message)
-    requires { InLayout rec.old × (messagesIn rec.old < 64) }
-    ensures { rec.new ≡ put (withMesh (get rec.old) ((get rec.old).mesh ++ m ∷ [])) rec.old }
+    requires { InLayout rec.old × (messages_in rec.old < 64) }
+    ensures { rec.new ≡ put (with_mesh (get rec.old) ((get rec.old).mesh ++ m ∷ [])) rec.old }
 {
     let count = rec[MESSAGE_COUNT_OFFSET];
     let at = message_offset(count);
@@ -94,8 +94,8 @@ pub fn append(rec: &mut [u8], m: Message)
 
 // The mesh without the message at a position; the rest keep their order.
 pub fn remove(rec: &mut [u8], position: u8)
-    requires { InLayout rec.old × (position < messagesIn rec.old) }
-    ensures { rec.new ≡ put (withMesh (get rec.old) (removeAt (get rec.old).mesh position)) rec.old }
+    requires { InLayout rec.old × (position < messages_in rec.old) }
+    ensures { rec.new ≡ put (with_mesh (get rec.old) (remove_at (get rec.old).mesh position)) rec.old }
 {
     let count = rec[MESSAGE_COUNT_OFFSET];
     let left = count - 1;

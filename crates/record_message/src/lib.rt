@@ -1,7 +1,7 @@
 // Whether a message is well-formed and sound, by its bytes.
 ghost use Rattle.std.specs.Prelude.{◌≡◌, ◌+◌, ◌≤◌, length};
-ghost use Rattle.spec_rack.specs.RecordLayout.{messageSize};
-ghost use Rattle.record_message.specs.Messages.{tokenSumAt, endpointsKnown, soundBareOwner, soundFlags, soundMessageAt};
+ghost use Rattle.spec_rack.specs.RecordLayout.{message_size};
+ghost use Rattle.record_message.specs.Messages.{token_sum_at, endpoints_known, sound_bare_owner, sound_flags, sound_message_at};
 
 use base::{all_zero, both, byte_at, wide};
 use spec_rack::{
@@ -13,7 +13,7 @@ use spec_rack::{
 // Plain tokens in the low 16 bits and owners above them, so that one sum counts both: of the two bytes at `at`.
 pub fn token_sum(rec: &[u8], at: usize) -> u32
     requires { at + 2 ≤ length rec.now }
-    ensures { (result ≡ tokenSumAt rec.now at) × (result ≤ 16711935) }
+    ensures { (result ≡ token_sum_at rec.now at) × (result ≤ 16711935) }
 {
     wide(byte_at(rec, at, 0)) + wide(byte_at(rec, at, 1)) * 65536
 }
@@ -21,7 +21,7 @@ pub fn token_sum(rec: &[u8], at: usize) -> u32
 // Whether a message's ends are known and differ, and its block is known. A sound message takes none of the returns, here and below.
 fn endpoints_known(rec: &[u8], at: usize, boards: u8, blocks: u8) -> bool
     requires { at + 3 ≤ length rec.now }
-    ensures { result ≡ endpointsKnown boards blocks rec.now at }
+    ensures { result ≡ endpoints_known boards blocks rec.now at }
 {
     let sender = byte_at(rec, at, SENDER_OFFSET);
     let target = byte_at(rec, at, TARGET_OFFSET);
@@ -39,7 +39,7 @@ fn endpoints_known(rec: &[u8], at: usize, boards: u8, blocks: u8) -> bool
 
 // Whether an owner without data may be in flight: one owner, clean, on its way home.
 fn bare_owner_sound(owner: u8, dirty: u8, target: u8) -> bool
-    ensures { result ≡ soundBareOwner owner dirty target }
+    ensures { result ≡ sound_bare_owner owner dirty target }
 {
     both(owner == 1, wide(dirty) + wide(target) == 0)
 }
@@ -47,7 +47,7 @@ fn bare_owner_sound(owner: u8, dirty: u8, target: u8) -> bool
 // Whether a message's owner has data or goes home clean, it carries a token, its mark is dirty only beside an owner, and the last byte of its header is 0.
 fn sound_flags(rec: &[u8], at: usize) -> bool
     requires { at + 8 ≤ length rec.now }
-    ensures { result ≡ soundFlags rec.now at }
+    ensures { result ≡ sound_flags rec.now at }
 {
     let plain = byte_at(rec, at, MESSAGE_PLAIN_OFFSET);
     let owner = byte_at(rec, at, MESSAGE_OWNER_OFFSET);
@@ -68,8 +68,8 @@ fn sound_flags(rec: &[u8], at: usize) -> bool
 
 // Whether the message at `at` is well-formed and sound.
 pub fn sound_message_at(rec: &[u8], at: usize, boards: u8, blocks: u8) -> bool
-    requires { at + messageSize ≤ length rec.now }
-    ensures { result ≡ soundMessageAt boards blocks rec.now at }
+    requires { at + message_size ≤ length rec.now }
+    ensures { result ≡ sound_message_at boards blocks rec.now at }
 {
     if !endpoints_known(rec, at, boards, blocks) {
         return false;

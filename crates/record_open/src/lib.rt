@@ -1,9 +1,9 @@
 // An opening: the fresh record, written over the front of a lent buffer.
 ghost use Rattle.std.specs.Prelude.{◌≡◌, ◌+◌, ◌≤◌, ◌<◌, length, replicate};
-ghost use Rattle.spec_base.specs.Layout.{modifyAt};
-ghost use Rattle.spec_rack.specs.Rack.{freshBlock, fresh};
-ghost use Rattle.spec_rack.specs.RecordLayout.{blockSize, recordLength, block, put};
-ghost use Rattle.spec_rack.specs.Opening.{openReply, openAfter};
+ghost use Rattle.spec_base.specs.Layout.{modify_at};
+ghost use Rattle.spec_rack.specs.Rack.{fresh_block, fresh};
+ghost use Rattle.spec_rack.specs.RecordLayout.{block_size, record_length, block, put};
+ghost use Rattle.spec_rack.specs.Opening.{open_reply, open_after};
 
 use base::numbers::put_u32;
 use record::sizes;
@@ -17,7 +17,7 @@ use spec_wire::Refusal;
 // Makes `count` bytes from `at` on 0.
 fn zero_fill(s: &mut [u8], at: usize, count: usize)
     requires { at + count ≤ length s.old }
-    ensures { s.new ≡ modifyAt at count (λ t. replicate count 0) s.old }
+    ensures { s.new ≡ modify_at at count (λ t. replicate count 0) s.old }
 {
     let mut i: usize = 0;
     while i < count {
@@ -28,8 +28,8 @@ fn zero_fill(s: &mut [u8], at: usize, count: usize)
 
 // Writes the fresh block at `at`: home holds all tokens, valid; the owner is clean, so its mark stays 0.
 fn open_block(rec: &mut [u8], at: usize, boards: u32, tokens: u32)
-    requires { (boards < 16) × (1 ≤ tokens) × (tokens ≤ 64) × (at + blockSize ≤ length rec.old) }
-    ensures { rec.new ≡ modifyAt at blockSize ((block boards).write (freshBlock boards tokens)) rec.old }
+    requires { (boards < 16) × (1 ≤ tokens) × (tokens ≤ 64) × (at + block_size ≤ length rec.old) }
+    ensures { rec.new ≡ modify_at at block_size ((block boards).write (fresh_block boards tokens)) rec.old }
 {
     let words = WORDS_SIZE * (boards as usize + 1);
     let sets = at + CLAIMS_OFFSET;
@@ -44,7 +44,7 @@ fn open_block(rec: &mut [u8], at: usize, boards: u32, tokens: u32)
 
 // Writes the fresh record.
 fn write_fresh(rec: &mut [u8], boards: u32, blocks: u32, tokens: u32)
-    requires { (boards < 16) × (1 ≤ tokens) × (tokens ≤ 64) × (blocks ≤ 32) × (recordLength blocks ≤ length rec.old) }
+    requires { (boards < 16) × (1 ≤ tokens) × (tokens ≤ 64) × (blocks ≤ 32) × (record_length blocks ≤ length rec.old) }
     ensures { rec.new ≡ put (fresh boards blocks tokens) rec.old }
 {
     put_u32(rec, FORMAT_OFFSET, FORMAT_MAGIC);
@@ -63,8 +63,8 @@ fn write_fresh(rec: &mut [u8], boards: u32, blocks: u32, tokens: u32)
 
 // Opens a record of N boards, B blocks and T tokens to a block.
 pub fn open(rec: &mut [u8], boards: u32, blocks: u32, tokens: u32) -> Reply
-    ensures reply { result ≡ openReply boards blocks tokens rec.old }
-    ensures buffer { rec.new ≡ openAfter boards blocks tokens rec.old }
+    ensures reply { result ≡ open_reply boards blocks tokens rec.old }
+    ensures buffer { rec.new ≡ open_after boards blocks tokens rec.old }
 {
     if !sizes::in_range(boards, blocks, tokens) {
         return Reply::Refused(Refusal::Size);

@@ -12,36 +12,36 @@ use lib.ListN.{get_or}
 use lib.Pow.{pow_pos, pow-add}
 use borrow.Author.Tests.{eq-eqb, eqb-true, ltb-true, lt-ltb, not-true, not-false}
 use Rattle.spec_base.specs.Folds.{all_below}
-use Rattle.spec_base.proofs.Tests.{and_left, and_right, and-known}
-use Rattle.spec_base.proofs.Folds.{below-and}
-use Rattle.spec_rack.specs.RecordLayout.{blockOffset}
-use Rattle.record_lanes.specs.Lanes.{soundLanes, unusedLanesEmpty}
-use Rattle.record_soundness.specs.Decision.{tokensTotal, soundClaimsAt, soundBlockAt}
+use Rattle.spec_base.proofs.Tests.{and_left, and_right, and_known}
+use Rattle.spec_base.proofs.Folds.{below_and}
+use Rattle.spec_rack.specs.RecordLayout.{block_offset}
+use Rattle.record_lanes.specs.Lanes.{sound_lanes, unused_lanes_empty}
+use Rattle.record_soundness.specs.Decision.{tokens_total, sound_claims_at, sound_block_at}
 
 -- ---- the passes over the blocks
 
 module _ (n t : ℕ) (s : List ℕ) (count : ℕ) (mesh : ℕ → ℕ) where
-  abbrev pub sumsFine : Bool
-  sumsFine = all_below count (λ b. tokensTotal t s (blockOffset b) (mesh b) && soundClaimsAt n s (blockOffset b))
+  abbrev pub sums_fine : Bool
+  sums_fine = all_below count (λ b. tokens_total t s (block_offset b) (mesh b) && sound_claims_at n s (block_offset b))
 
-  passes : all_below count (λ b. soundBlockAt n t s (blockOffset b) (mesh b)) ≡ (sumsFine && (all_below count (λ b. soundLanes s (blockOffset b)) && all_below count (λ b. unusedLanesEmpty n s (blockOffset b))))
-  unfolding soundBlockAt
+  passes : all_below count (λ b. sound_block_at n t s (block_offset b) (mesh b)) ≡ (sums_fine && (all_below count (λ b. sound_lanes s (block_offset b)) && all_below count (λ b. unused_lanes_empty n s (block_offset b))))
+  unfolding sound_block_at
   passes =
-      below-and (λ b. tokensTotal t s (blockOffset b) (mesh b) && soundClaimsAt n s (blockOffset b)) (λ b. soundLanes s (blockOffset b) && unusedLanesEmpty n s (blockOffset b)) count
-      ∙ ap (λ (w : Bool). sumsFine && w) (below-and (λ b. soundLanes s (blockOffset b)) (λ b. unusedLanesEmpty n s (blockOffset b)) count)
+      below_and (λ b. tokens_total t s (block_offset b) (mesh b) && sound_claims_at n s (block_offset b)) (λ b. sound_lanes s (block_offset b) && unused_lanes_empty n s (block_offset b)) count
+      ∙ ap (λ (w : Bool). sums_fine && w) (below_and (λ b. sound_lanes s (block_offset b)) (λ b. unused_lanes_empty n s (block_offset b)) count)
 
   -- the first pass that fails decides, and the last one where none does
   abbrev marks : Bool
-  marks = all_below count (λ b. soundLanes s (blockOffset b))
+  marks = all_below count (λ b. sound_lanes s (block_offset b))
 
   abbrev rooms : Bool
-  rooms = all_below count (λ b. unusedLanesEmpty n s (blockOffset b))
+  rooms = all_below count (λ b. unused_lanes_empty n s (block_offset b))
 
-  pub passes-sums : sumsFine ≡ false → all_below count (λ b. soundBlockAt n t s (blockOffset b) (mesh b)) ≡ false
-  passes-sums h = passes ∙ and_left sumsFine (marks && rooms) h
+  pub passes_sums : sums_fine ≡ false → all_below count (λ b. sound_block_at n t s (block_offset b) (mesh b)) ≡ false
+  passes_sums h = passes ∙ and_left sums_fine (marks && rooms) h
 
-  pub passes-marks : marks ≡ false → all_below count (λ b. soundBlockAt n t s (blockOffset b) (mesh b)) ≡ false
-  passes-marks h = passes ∙ and_right sumsFine (marks && rooms) (and_left marks rooms h)
+  pub passes_marks : marks ≡ false → all_below count (λ b. sound_block_at n t s (block_offset b) (mesh b)) ≡ false
+  passes_marks h = passes ∙ and_right sums_fine (marks && rooms) (and_left marks rooms h)
 
-  pub passes-rooms : sumsFine ≡ true → marks ≡ true → all_below count (λ b. soundBlockAt n t s (blockOffset b) (mesh b)) ≡ rooms
-  passes-rooms h k = passes ∙ and-known sumsFine (marks && rooms) h ∙ and-known marks rooms k
+  pub passes_rooms : sums_fine ≡ true → marks ≡ true → all_below count (λ b. sound_block_at n t s (block_offset b) (mesh b)) ≡ rooms
+  passes_rooms h k = passes ∙ and_known sums_fine (marks && rooms) h ∙ and_known marks rooms k

@@ -8,42 +8,42 @@ use lib.Bits.{bit_or, or_zero_r}
 use lib.Count.{count_trailing_zeros, under}
 use lib.Pow.{pow_pos, shl_exact}
 use Rattle.spec_base.specs.Folds.{toℕ, all_below, implies}
-use Rattle.spec_base.proofs.Tests.{either, differs, same_or_not, same_test, and_r, and-of, implied, implies-of}
+use Rattle.spec_base.proofs.Tests.{either, differs, same_or_not, same_test, and_r, and_of, implied, implies_of}
 use Rattle.spec_base.proofs.Folds.{below_at, below_of, below_fails}
 use Rattle.spec_arbiter.specs.Boards.{member, insert, remove}
-use Rattle.spec_arbiter.proofs.Boards.{bit-zero, bit-suc, bit_in, bit_le, in-of-bit, member-empty, insert-same, insert-other, remove-in, remove-other, remove-was}
-use Rattle.arbiter.proofs.SetBits.{or-insert}
+use Rattle.spec_arbiter.proofs.Boards.{bit_zero, bit_suc, bit_in, bit_le, in_of_bit, member_empty, insert_same, insert_other, remove_in, remove_other, remove_was}
+use Rattle.arbiter.proofs.SetBits.{or_insert}
 
 -- ---- the machine's operations
 
-pub bit-of : (i : ℕ) → i < 32 → (1 * 2 ^ i) % 2 ^ 32 ≡ 2 ^ i
-bit-of i l = shl_exact {a = 1} 1 i 32 (omega arith) (omega arith) ∙ omega arith
+pub bit_of : (i : ℕ) → i < 32 → (1 * 2 ^ i) % 2 ^ 32 ≡ 2 ^ i
+bit_of i l = shl_exact {a = 1} 1 i 32 (omega arith) (omega arith) ∙ omega arith
 
 -- `s | 1 << i`
-pub or-bit : (s i : ℕ) → i < 32 → bit_or s ((1 * 2 ^ i) % 2 ^ 32) ≡ insert s i
-or-bit s i l = ap (bit_or s) (bit-of i l) ∙ or-insert s i
+pub or_bit : (s i : ℕ) → i < 32 → bit_or s ((1 * 2 ^ i) % 2 ^ 32) ≡ insert s i
+or_bit s i l = ap (bit_or s) (bit_of i l) ∙ or_insert s i
 
 -- `s | test << i`
-pub or-insert-if : (s i : ℕ) (t : Bool) → i < 32 → bit_or s ((toℕ t * 2 ^ i) % 2 ^ 32) ≡ cond t (insert s i) s
-or-insert-if s i true l = or-bit s i l
-or-insert-if s i false l = ap (bit_or s) (shl_exact {a = 0} 0 i 32 (omega arith) (omega arith) ∙ omega arith) ∙ or_zero_r s
+pub or_insert_if : (s i : ℕ) (t : Bool) → i < 32 → bit_or s ((toℕ t * 2 ^ i) % 2 ^ 32) ≡ cond t (insert s i) s
+or_insert_if s i true l = or_bit s i l
+or_insert_if s i false l = ap (bit_or s) (shl_exact {a = 0} 0 i 32 (omega arith) (omega arith) ∙ omega arith) ∙ or_zero_r s
 
 -- `u32::trailing_zeros(s)`
-pub choose-in : (k s : ℕ) → s < 2 ^ k → 0 < s → (count_trailing_zeros k s < k) × (member s (count_trailing_zeros k s) ≡ true)
+pub choose_in : (k s : ℕ) → s < 2 ^ k → 0 < s → (count_trailing_zeros k s < k) × (member s (count_trailing_zeros k s) ≡ true)
 unfolding count_trailing_zeros
-choose-in zero s h l = absurd (omega arith)
-choose-in (suc k) s h l = ⊎_elim odd (λ (ne : s % 2 ≡ 1 → ⊥). even (omega arith) (choose-in k (s / 2) (omega arith) (omega arith))) (same_or_not (s % 2) 1)
+choose_in zero s h l = absurd (omega arith)
+choose_in (suc k) s h l = ⊎_elim odd (λ (ne : s % 2 ≡ 1 → ⊥). even (omega arith) (choose_in k (s / 2) (omega arith) (omega arith))) (same_or_not (s % 2) 1)
   where
     odd : s % 2 ≡ 1 → (count_trailing_zeros (suc k) s < suc k) × (member s (count_trailing_zeros (suc k) s) ≡ true)
     odd e = let z : count_trailing_zeros (suc k) s ≡ 0 = ap (λ (d : ℕ). under d (count_trailing_zeros k (s / 2))) e in
-        (omega arith, ap (member s) z ∙ in-of-bit s 0 (bit-zero s ∙ e))
+        (omega arith, ap (member s) z ∙ in_of_bit s 0 (bit_zero s ∙ e))
 
     even : s % 2 ≡ 0 → (count_trailing_zeros k (s / 2) < k) × (member (s / 2) (count_trailing_zeros k (s / 2)) ≡ true) → (count_trailing_zeros (suc k) s < suc k) × (member s (count_trailing_zeros (suc k) s) ≡ true)
     even e r = let z : count_trailing_zeros (suc k) s ≡ suc (count_trailing_zeros k (s / 2)) = ap (λ (d : ℕ). under d (count_trailing_zeros k (s / 2))) e in
-        (omega (arith, r.0), ap (member s) z ∙ in-of-bit s (suc (count_trailing_zeros k (s / 2))) (bit-suc s (count_trailing_zeros k (s / 2)) ∙ bit_in (s / 2) (count_trailing_zeros k (s / 2)) r.1))
+        (omega (arith, r.0), ap (member s) z ∙ in_of_bit s (suc (count_trailing_zeros k (s / 2))) (bit_suc s (count_trailing_zeros k (s / 2)) ∙ bit_in (s / 2) (count_trailing_zeros k (s / 2)) r.1))
 
-pub remove-less : (s i : ℕ) → member s i ≡ true → remove s i < s
-remove-less s i m = omega (arith, remove-in s i m, bit_le s i (bit_in s i m), pow_pos i)
+pub remove_less : (s i : ℕ) → member s i ≡ true → remove s i < s
+remove_less s i m = omega (arith, remove_in s i m, bit_le s i (bit_in s i m), pow_pos i)
 
 -- ---- the pass over all blocks: t and c say whether a block's tokens and claims are sound, `barred` is the set collected
 
@@ -54,18 +54,18 @@ module _ (t c : ℕ → Bool) where
     pub tokens : (k : ℕ) → k < b → t k ≡ true
     pub claims : (k : ℕ) → k < b → member barred k ≡ false → c k ≡ true
 
-  pub first-start : FirstPass 0 0
-  first-start = record { inside = λ k m. differs (sym m ∙ member-empty k); tokens = λ k l. absurd (omega arith); claims = λ k l m. absurd (omega arith) }
+  pub first_start : FirstPass 0 0
+  first_start = record { inside = λ k m. differs (sym m ∙ member_empty k); tokens = λ k l. absurd (omega arith); claims = λ k l m. absurd (omega arith) }
 
-  pub first-turn : (b barred : ℕ) (w : Bool) → FirstPass b barred → t b ≡ true → (w ≡ false → c b ≡ true) → FirstPass (b + 1) (cond w (insert barred b) barred)
-  first-turn b barred true h e f =
+  pub first_turn : (b barred : ℕ) (w : Bool) → FirstPass b barred → t b ≡ true → (w ≡ false → c b ≡ true) → FirstPass (b + 1) (cond w (insert barred b) barred)
+  first_turn b barred true h e f =
       record {
-        inside = λ k m. ⊎_elim (λ (z : k ≡ b). omega arith) (λ (ne : k ≡ b → ⊥). omega (arith, h.inside k (sym (insert-other barred b k ne) ∙ m))) (same_or_not k b);
+        inside = λ k m. ⊎_elim (λ (z : k ≡ b). omega arith) (λ (ne : k ≡ b → ⊥). omega (arith, h.inside k (sym (insert_other barred b k ne) ∙ m))) (same_or_not k b);
         tokens = λ k l. ⊎_elim (λ (z : k ≡ b). ap t z ∙ e) (λ (ne : k ≡ b → ⊥). h.tokens k (omega arith)) (same_or_not k b);
-        claims = λ k l m. ⊎_elim (λ (z : k ≡ b). differs (sym (ap (member (insert barred b)) z ∙ insert-same barred b) ∙ m))
-            (λ (ne : k ≡ b → ⊥). h.claims k (omega arith) (sym (insert-other barred b k ne) ∙ m)) (same_or_not k b);
+        claims = λ k l m. ⊎_elim (λ (z : k ≡ b). differs (sym (ap (member (insert barred b)) z ∙ insert_same barred b) ∙ m))
+            (λ (ne : k ≡ b → ⊥). h.claims k (omega arith) (sym (insert_other barred b k ne) ∙ m)) (same_or_not k b);
       }
-  first-turn b barred false h e f =
+  first_turn b barred false h e f =
       record {
         inside = λ k m. omega (arith, h.inside k m);
         tokens = λ k l. ⊎_elim (λ (z : k ≡ b). ap t z ∙ e) (λ (ne : k ≡ b → ⊥). h.tokens k (omega arith)) (same_or_not k b);
@@ -73,14 +73,14 @@ module _ (t c : ℕ → Bool) where
       }
 
   -- the claims of the collected blocks decide
-  pub first-end : (count barred : ℕ) → count ≤ 32 → FirstPass count barred → all_below 32 (λ k. implies (member barred k) (c k)) ≡ all_below count (λ k. t k && c k)
-  first-end count barred l h =
+  pub first_end : (count barred : ℕ) → count ≤ 32 → FirstPass count barred → all_below 32 (λ k. implies (member barred k) (c k)) ≡ all_below count (λ k. t k && c k)
+  first_end count barred l h =
       same_test (all_below 32 (λ k. implies (member barred k) (c k))) (all_below count (λ k. t k && c k))
       (λ q. below_of (λ k. t k && c k) count
-      (λ k u. and-of (t k) (c k) (h.tokens k u)
+      (λ k u. and_of (t k) (c k) (h.tokens k u)
       (⊎_elim (λ m. implied (member barred k) (c k) (below_at (λ j. implies (member barred j) (c j)) 32 q k (omega arith)) m) (λ m. h.claims k u m) (either (member barred k)))))
       (λ q. below_of (λ k. implies (member barred k) (c k)) 32
-      (λ k u. implies-of (member barred k) (c k) (λ m. and_r (t k) (c k) (below_at (λ j. t j && c j) count q k (h.inside k m)))))
+      (λ k u. implies_of (member barred k) (c k) (λ m. and_r (t k) (c k) (below_at (λ j. t j && c j) count q k (h.inside k m)))))
 
 -- ---- the pass over the collected blocks
 
@@ -89,21 +89,21 @@ module _ (barred : ℕ) (c : ℕ → Bool) where
     pub inside : (k : ℕ) → member left k ≡ true → member barred k ≡ true
     pub done : (k : ℕ) → member left k ≡ false → member barred k ≡ true → c k ≡ true
 
-  abbrev pub barredFine : Bool
-  barredFine = all_below 32 (λ k. implies (member barred k) (c k))
+  abbrev pub barred_fine : Bool
+  barred_fine = all_below 32 (λ k. implies (member barred k) (c k))
 
-  pub second-start : SecondPass barred
-  second-start = record { inside = λ k m. m; done = λ k m n. differs (sym n ∙ m) }
+  pub second_start : SecondPass barred
+  second_start = record { inside = λ k m. m; done = λ k m n. differs (sym n ∙ m) }
 
-  pub second-turn : (left i : ℕ) → member left i ≡ true → c i ≡ true → SecondPass left → SecondPass (remove left i)
-  second-turn left i m e h =
+  pub second_turn : (left i : ℕ) → member left i ≡ true → c i ≡ true → SecondPass left → SecondPass (remove left i)
+  second_turn left i m e h =
       record {
-        inside = λ k n. h.inside k (remove-was left i k n).0;
-        done = λ k n w. ⊎_elim (λ (z : k ≡ i). ap c z ∙ e) (λ (ne : k ≡ i → ⊥). h.done k (sym (remove-other left i k ne) ∙ n) w) (same_or_not k i);
+        inside = λ k n. h.inside k (remove_was left i k n).0;
+        done = λ k n w. ⊎_elim (λ (z : k ≡ i). ap c z ∙ e) (λ (ne : k ≡ i → ⊥). h.done k (sym (remove_other left i k ne) ∙ n) w) (same_or_not k i);
       }
 
-  pub second-end : (left : ℕ) → left ≡ 0 → SecondPass left → barredFine ≡ true
-  second-end left z h = below_of (λ k. implies (member barred k) (c k)) 32 (λ k l. implies-of (member barred k) (c k) (h.done k (ap (λ (s : ℕ). member s k) z ∙ member-empty k)))
+  pub second_end : (left : ℕ) → left ≡ 0 → SecondPass left → barred_fine ≡ true
+  second_end left z h = below_of (λ k. implies (member barred k) (c k)) 32 (λ k l. implies_of (member barred k) (c k) (h.done k (ap (λ (s : ℕ). member s k) z ∙ member_empty k)))
 
-  pub second-fails : (left i : ℕ) → i < 32 → member left i ≡ true → c i ≡ false → SecondPass left → barredFine ≡ false
-  second-fails left i l m e h = below_fails (λ k. implies (member barred k) (c k)) 32 i l (ap (λ (t : Bool). implies t (c i)) (h.inside i m) ∙ e)
+  pub second_fails : (left i : ℕ) → i < 32 → member left i ≡ true → c i ≡ false → SecondPass left → barred_fine ≡ false
+  second_fails left i l m e h = below_fails (λ k. implies (member barred k) (c k)) 32 i l (ap (λ (t : Bool). implies t (c i)) (h.inside i m) ∙ e)

@@ -1,27 +1,27 @@
 -- Document 01, "Sound means", as it is decided by passes over the bytes: each message by itself, and for each block its lanes, one sum and its claims.
 use Rattle.std.specs.Prelude.{ℕ, ◌+◌, ◌*◌, Bool, cond, ◌&&◌, List, get_or, eqb}
-use Rattle.spec_base.specs.Folds.{sumBelow}
+use Rattle.spec_base.specs.Folds.{sum_below}
 use Rattle.spec_base.specs.Layout.{slice}
-use Rattle.spec_arbiter.specs.Claims.{soundClaims}
-use Rattle.spec_rack.specs.RecordLayout.{claims, claimsAtOffset, ownerOffset, claimsOffset, messageOffset, claimsSize, messageBlockOffset, messagePlainOffset}
-use Rattle.record_lanes.specs.Lanes.{soundLanes, unusedLanesEmpty, laneSum}
-use Rattle.record_message.specs.Messages.{tokenSumAt}
+use Rattle.spec_arbiter.specs.Claims.{sound_claims}
+use Rattle.spec_rack.specs.RecordLayout.{claims, claims_at_offset, owner_offset, claims_offset, message_offset, claims_size, message_block_offset, message_plain_offset}
+use Rattle.record_lanes.specs.Lanes.{sound_lanes, unused_lanes_empty, lane_sum}
+use Rattle.record_message.specs.Messages.{token_sum_at}
 
 -- the weight of block k in the message at a place
-abbrev pub carriedSumAt : List ℕ → ℕ → ℕ → ℕ
-carriedSumAt s k at = cond (eqb (get_or s (at + messageBlockOffset) 0) k) (tokenSumAt s (at + messagePlainOffset)) 0
+abbrev pub carried_sum_at : List ℕ → ℕ → ℕ → ℕ
+carried_sum_at s k at = cond (eqb (get_or s (at + message_block_offset) 0) k) (token_sum_at s (at + message_plain_offset)) 0
 
 -- the weight of block k in the first m messages
-unfoldable pub sumInFlight : List ℕ → ℕ → ℕ → ℕ
-sumInFlight s m k = sumBelow m (λ i. carriedSumAt s k (messageOffset i))
+unfoldable pub sum_in_flight : List ℕ → ℕ → ℕ → ℕ
+sum_in_flight s m k = sum_below m (λ i. carried_sum_at s k (message_offset i))
 
 -- of the block at a place, of which the mesh has a weight: T tokens with one owner (T - 1 plain ones)
-abbrev pub tokensTotal : ℕ → List ℕ → ℕ → ℕ → Bool
-tokensTotal t s at mesh = eqb (laneSum s at + laneSum s (at + ownerOffset) * 65536 + mesh) (t + 65535)
+abbrev pub tokens_total : ℕ → List ℕ → ℕ → ℕ → Bool
+tokens_total t s at mesh = eqb (lane_sum s at + lane_sum s (at + owner_offset) * 65536 + mesh) (t + 65535)
 
 -- its sets are well-formed and sound
-abbrev pub soundClaimsAt : ℕ → List ℕ → ℕ → Bool
-soundClaimsAt n s at = (claims n).wellFormed (slice (at + claimsOffset) claimsSize s) && soundClaims n (claimsAtOffset n (at + claimsOffset) s)
+abbrev pub sound_claims_at : ℕ → List ℕ → ℕ → Bool
+sound_claims_at n s at = (claims n).well_formed (slice (at + claims_offset) claims_size s) && sound_claims n (claims_at_offset n (at + claims_offset) s)
 
-unfoldable pub soundBlockAt : ℕ → ℕ → List ℕ → ℕ → ℕ → Bool
-soundBlockAt n t s at mesh = (tokensTotal t s at mesh && soundClaimsAt n s at) && (soundLanes s at && unusedLanesEmpty n s at)
+unfoldable pub sound_block_at : ℕ → ℕ → List ℕ → ℕ → ℕ → Bool
+sound_block_at n t s at mesh = (tokens_total t s at mesh && sound_claims_at n s at) && (sound_lanes s at && unused_lanes_empty n s at)

@@ -5,10 +5,10 @@ pub mod block_set;
 ghost use Rattle.std.specs.Prelude.{◌≡◌, true, ◌&&◌, ℕ, ◌+◌, ◌*◌, ◌≤◌, ◌<◌, eqb, length, get_or, replicate};
 ghost use Rattle.spec_base.specs.Folds.{all_below, implies};
 ghost use Rattle.spec_arbiter.specs.Boards.{member};
-ghost use Rattle.spec_rack.specs.Soundness.{sizes, soundBytes};
-ghost use Rattle.spec_rack.specs.RecordLayout.{formatMagic, headerSize, blockSize, blocksOffset, blockOffset, messageOffset, recordLength, format_in};
-ghost use Rattle.record_message.specs.Messages.{soundMessageAt};
-ghost use Rattle.record_soundness.specs.Decision.{sumInFlight, tokensTotal, soundClaimsAt, soundBlockAt};
+ghost use Rattle.spec_rack.specs.Soundness.{sizes, sound_bytes};
+ghost use Rattle.spec_rack.specs.RecordLayout.{format_magic, header_size, block_size, blocks_offset, block_offset, message_offset, record_length, format_in};
+ghost use Rattle.record_message.specs.Messages.{sound_message_at};
+ghost use Rattle.record_soundness.specs.Decision.{sum_in_flight, tokens_total, sound_claims_at, sound_block_at};
 
 use base::{both, wide, wide_at};
 use record::sizes;
@@ -28,9 +28,9 @@ const FORMAT_LOW_FIRST: u32 = FORMAT_MAGIC / 16777216
 
 // Whether the messages are sound; if so, each block's tokens in flight are added to its sum.
 fn mesh_sound(rec: &[u8], boards: u8, blocks: u8, count: usize, sums: &mut [u32; 32]) -> bool
-    requires { (blocks ≤ 32) × (count ≤ 64) × (blocksOffset ≤ length rec.now) × (sums.old ≡ replicate 32 0) }
-    ensures fine { result ≡ all_below count (λ i. soundMessageAt boards blocks rec.now (messageOffset i)) }
-    ensures sums { result ≡ true → (k : ℕ) → k < 32 → (get_or sums.new k 0 ≡ sumInFlight rec.now count k) }
+    requires { (blocks ≤ 32) × (count ≤ 64) × (blocks_offset ≤ length rec.now) × (sums.old ≡ replicate 32 0) }
+    ensures fine { result ≡ all_below count (λ i. sound_message_at boards blocks rec.now (message_offset i)) }
+    ensures sums { result ≡ true → (k : ℕ) → k < 32 → (get_or sums.new k 0 ≡ sum_in_flight rec.now count k) }
 {
     let mut i: usize = 0;
     while i < count {
@@ -47,16 +47,16 @@ fn mesh_sound(rec: &[u8], boards: u8, blocks: u8, count: usize, sums: &mut [u32;
 
 // Whether the block at `at` has T tokens, one of them the owner, given the token sum of its messages in flight.
 fn tokens_total(rec: &[u8], at: usize, tokens: u8, mesh: u32) -> bool
-    requires { (at + blockSize ≤ length rec.now) × (mesh ≤ 1069563840) }
-    ensures { result ≡ tokensTotal tokens rec.now at mesh }
+    requires { (at + block_size ≤ length rec.now) × (mesh ≤ 1069563840) }
+    ensures { result ≡ tokens_total tokens rec.now at mesh }
 {
     sum16(rec, at) + sum16(rec, at + OWNER_OFFSET) * 65536 + mesh == wide(tokens) + 65535
 }
 
 // Whether the claims of every block of a set are sound: the blocks in which a board is barred.
 fn barred_sound(rec: &[u8], boards: u8, blocks: u32) -> bool
-    requires { (boards < 16) × ((k : ℕ) → member blocks k ≡ true → blockOffset k + blockSize ≤ length rec.now) }
-    ensures { result ≡ all_below 32 (λ b. implies (member blocks b) (soundClaimsAt boards rec.now (blockOffset b))) }
+    requires { (boards < 16) × ((k : ℕ) → member blocks k ≡ true → block_offset k + block_size ≤ length rec.now) }
+    ensures { result ≡ all_below 32 (λ b. implies (member blocks b) (sound_claims_at boards rec.now (block_offset b))) }
 {
     let mut left = blocks;
     while 0 < left {
@@ -73,8 +73,8 @@ fn barred_sound(rec: &[u8], boards: u8, blocks: u32) -> bool
 // Whether the tokens and the claims of every block are sound. In most blocks no board is barred, and the waiting set alone decides; the other blocks are
 // put in a set, and only these are looked at again.
 fn sums_sound(rec: &[u8], boards: u8, tokens: u8, count: usize, sums: &[u32; 32]) -> bool
-    requires { (boards < 16) × (count ≤ 32) × (recordLength count ≤ length rec.now) × ((k : ℕ) → k < 32 → get_or sums.now k 0 ≤ 1069563840) }
-    ensures { result ≡ all_below count (λ b. tokensTotal tokens rec.now (blockOffset b) (get_or sums.now b 0) && soundClaimsAt boards rec.now (blockOffset b)) }
+    requires { (boards < 16) × (count ≤ 32) × (record_length count ≤ length rec.now) × ((k : ℕ) → k < 32 → get_or sums.now k 0 ≤ 1069563840) }
+    ensures { result ≡ all_below count (λ b. tokens_total tokens rec.now (block_offset b) (get_or sums.now b 0) && sound_claims_at boards rec.now (block_offset b)) }
 {
     let mut barred: u32 = 0;
     let mut b: usize = 0;
@@ -95,8 +95,8 @@ fn sums_sound(rec: &[u8], boards: u8, tokens: u8, count: usize, sums: &[u32; 32]
 
 // Whether every block is sound.
 fn blocks_sound(rec: &[u8], boards: u8, tokens: u8, count: usize, sums: &[u32; 32]) -> bool
-    requires { (boards < 16) × (count ≤ 32) × (recordLength count ≤ length rec.now) × ((k : ℕ) → k < 32 → get_or sums.now k 0 ≤ 1069563840) }
-    ensures { result ≡ all_below count (λ b. soundBlockAt boards tokens rec.now (blockOffset b) (get_or sums.now b 0)) }
+    requires { (boards < 16) × (count ≤ 32) × (record_length count ≤ length rec.now) × ((k : ℕ) → k < 32 → get_or sums.now k 0 ≤ 1069563840) }
+    ensures { result ≡ all_below count (λ b. sound_block_at boards tokens rec.now (block_offset b) (get_or sums.now b 0)) }
 {
     if !sums_sound(rec, boards, tokens, count, sums) {
         return false;
@@ -116,8 +116,8 @@ fn sizes_in_range(boards: u8, blocks: u8, tokens: u8) -> bool
 
 // Whether the record has the format of this layout. The bytes are only compared, so they are loaded low byte first.
 fn format_known(rec: &[u8]) -> bool
-    requires { headerSize ≤ length rec.now }
-    ensures { result ≡ eqb (format_in rec.now) formatMagic }
+    requires { header_size ≤ length rec.now }
+    ensures { result ≡ eqb (format_in rec.now) format_magic }
 {
     let a = wide_at(rec, FORMAT_OFFSET);
     let b = wide_at(rec, FORMAT_OFFSET + 1);
@@ -128,7 +128,7 @@ fn format_known(rec: &[u8]) -> bool
 
 // Whether the buffer holds a sound record.
 pub fn sound(rec: &[u8]) -> bool
-    ensures { result ≡ soundBytes rec.now }
+    ensures { result ≡ sound_bytes rec.now }
 {
     if rec.len() < HEADER_SIZE {
         return false;

@@ -9,80 +9,80 @@ use Prim.Native.Nat.{ℕ, zero, suc, ◌+◌, ◌-◌, ◌<◌, ◌≤◌}
 use native.Mathlib.Omega.{arith}
 use borrow.Author.Tests.{eq-eqb, ne_eqb, leb-true}
 use lib.Dec.{leb}
-use Rattle.spec_base.specs.Folds.{toℕ, all, countBelow}
-use Rattle.spec_base.proofs.Tests.{either, same_or_not, lt-or-le, and_l, and_r, and_left, and_right}
-use Rattle.spec_base.proofs.Folds.{count_none, count-all, count_same, count-mono, count-more}
+use Rattle.spec_base.specs.Folds.{toℕ, all, count_below}
+use Rattle.spec_base.proofs.Tests.{either, same_or_not, lt_or_le, and_l, and_r, and_left, and_right}
+use Rattle.spec_base.proofs.Folds.{count_none, count_all, count_same, count_mono, count_more}
 use Rattle.spec_wire.specs.declared.Check.{Check}
-use Rattle.spec_arbiter.specs.Boards.{boardRoom, member}
+use Rattle.spec_arbiter.specs.Boards.{board_room, member}
 use Rattle.spec_arbiter.specs.Claims.{Claims, waiting, barring, raised, lowered}
-use Rattle.spec_arbiter.specs.Bypass.{Move, mover, moved, settled, claimsAfterMove, claimsAfter, lowersCounted, lowers, boardMoves, only, others, Bypass}
+use Rattle.spec_arbiter.specs.Bypass.{Move, mover, moved, settled, claims_after_move, claims_after, lowers_counted, lowers, board_moves, only, others, Bypass}
 use Rattle.spec_arbiter.specs.Bypass.Move.{raise, lower}
-use Rattle.spec_arbiter.proofs.Boards.{member-empty, insert-keeps, insert-same, remove-other}
-use Rattle.spec_arbiter.proofs.Claims.{SoundClaims, claims-facts, raised-sound, lowered-sound, raise-elim, lower-elim, raise-pass, raised-waiting, raised-barring, lowered-other, lowered-waiting, lowered-own}
+use Rattle.spec_arbiter.proofs.Boards.{member_empty, insert_keeps, insert_same, remove_other}
+use Rattle.spec_arbiter.proofs.Claims.{SoundClaims, claims_facts, raised_sound, lowered_sound, raise_elim, lower_elim, raise_pass, raised_waiting, raised_barring, lowered_other, lowered_waiting, lowered_own}
 
 -- ---- moves of boards, from sound claims
 
-abbrev board-move : ℕ → Move → Bool
-board-move n m = leb 1 (mover m) && leb (mover m) n
+abbrev board_move : ℕ → Move → Bool
+board_move n m = leb 1 (mover m) && leb (mover m) n
 
 -- the first move of a list is a board's, and so are the rest
 record First (n : ℕ) (m : Move) (ms : List Move) : Type 0 where
   low : 1 ≤ mover m
   high : mover m ≤ n
-  rest : boardMoves n ms ≡ true
+  rest : board_moves n ms ≡ true
 
-first-move : (n : ℕ) (m : Move) (ms : List Move) → boardMoves n (m ∷ ms) ≡ true → First n m ms
-unfolding boardMoves
-first-move n m ms h =
-    let b : board-move n m ≡ true = and_l (board-move n m) (all (board-move n) ms) h in
+first_move : (n : ℕ) (m : Move) (ms : List Move) → board_moves n (m ∷ ms) ≡ true → First n m ms
+unfolding board_moves
+first_move n m ms h =
+    let b : board_move n m ≡ true = and_l (board_move n m) (all (board_move n) ms) h in
     record {
       low = leb-true 1 (mover m) (and_l (leb 1 (mover m)) (leb (mover m) n) b);
       high = leb-true (mover m) n (and_r (leb 1 (mover m)) (leb (mover m) n) b);
-      rest = and_r (board-move n m) (all (board-move n) ms) h;
+      rest = and_r (board_move n m) (all (board_move n) ms) h;
     }
 
 abbrev Kept : ℕ → Claims → Claims → Check → Type 0
 Kept n c d k = SoundClaims n (settled k c d)
 
-made-sound : (n : ℕ) (c : Claims) (m : Move) → n < boardRoom → 1 ≤ mover m → mover m ≤ n → SoundClaims n c → SoundClaims n (claimsAfterMove c m)
-made-sound n c (raise i) fits low high s =
-    raise-elim c i (Kept n c (raised c i)) (λ r. s) (λ w b. raised-sound s low high fits (raise-pass c i w b))
-made-sound n c (lower i) fits low high s = lower-elim c i (Kept n c (lowered c i)) (λ r. s) (λ w. lowered-sound s low high)
+made_sound : (n : ℕ) (c : Claims) (m : Move) → n < board_room → 1 ≤ mover m → mover m ≤ n → SoundClaims n c → SoundClaims n (claims_after_move c m)
+made_sound n c (raise i) fits low high s =
+    raise_elim c i (Kept n c (raised c i)) (λ r. s) (λ w b. raised_sound s low high fits (raise_pass c i w b))
+made_sound n c (lower i) fits low high s = lower_elim c i (Kept n c (lowered c i)) (λ r. s) (λ w. lowered_sound s low high)
 
-after-sound : (n : ℕ) (ms : List Move) (c : Claims) → n < boardRoom → boardMoves n ms ≡ true → SoundClaims n c → SoundClaims n (claimsAfter c ms)
-unfolding claimsAfter
-after-sound n [] c fits b s = s
-after-sound n (m ∷ ms) c fits b s =
-    let f = first-move n m ms b in
-    after-sound n ms (claimsAfterMove c m) fits f.rest (made-sound n c m fits f.low f.high s)
+after_sound : (n : ℕ) (ms : List Move) (c : Claims) → n < board_room → board_moves n ms ≡ true → SoundClaims n c → SoundClaims n (claims_after c ms)
+unfolding claims_after
+after_sound n [] c fits b s = s
+after_sound n (m ∷ ms) c fits b s =
+    let f = first_move n m ms b in
+    after_sound n ms (claims_after_move c m) fits f.rest (made_sound n c m fits f.low f.high s)
 
 -- ---- the boards that may still lower before p
 
-module _ (n p : ℕ) (fits : n < boardRoom) (t : ℕ → Bool) where
+module _ (n p : ℕ) (fits : n < board_room) (t : ℕ → Bool) where
   -- board k + 1 passes the test and p does not bar it
   abbrev rival : Claims → ℕ → Bool
   rival c k = t (suc k) && not (member (barring c (suc k)) p)
 
   rivals : Claims → ℕ
-  rivals c = countBelow n (rival c)
+  rivals c = count_below n (rival c)
 
-  rivals-raised : (c : Claims) (i : ℕ) → rivals (raised c i) ≡ rivals c
+  rivals_raised : (c : Claims) (i : ℕ) → rivals (raised c i) ≡ rivals c
   unfolding rivals
-  rivals-raised c i =
+  rivals_raised c i =
       count_same (rival (raised c i)) (rival c) n
-      (λ k l. ap (λ (s : ℕ). t (suc k) && not (member s p)) (raised-barring c i (suc k) (λ e. omega arith)))
+      (λ k l. ap (λ (s : ℕ). t (suc k) && not (member s p)) (raised_barring c i (suc k) (λ e. omega arith)))
 
   -- an accepted lower by another board that passes the test leaves a rival fewer
-  rivals-lowered : (c : Claims) (i : ℕ) → SoundClaims n c → 1 ≤ i → i ≤ n → (p ≡ i → ⊥) → member (waiting c) p ≡ true
+  rivals_lowered : (c : Claims) (i : ℕ) → SoundClaims n c → 1 ≤ i → i ≤ n → (p ≡ i → ⊥) → member (waiting c) p ≡ true
       → member (waiting c) i ≡ true → rivals c ≡ toℕ (t i) + rivals (lowered c i)
   unfolding rivals
-  rivals-lowered c zero s low high ne h w = absurd (omega arith)
-  rivals-lowered c (suc k) s low high ne h w =
+  rivals_lowered c zero s low high ne h w = absurd (omega arith)
+  rivals_lowered c (suc k) s low high ne h w =
       ⊎_elim
       (λ (e : t (suc k) ≡ true). omega (
         arith,
         ap toℕ e,
-        count-more (rival (lowered c (suc k))) (rival c) k (gone (t (suc k))) (ap₂ ◌&&◌ e (ap not free)) same n (omega arith),
+        count_more (rival (lowered c (suc k))) (rival c) k (gone (t (suc k))) (ap₂ ◌&&◌ e (ap not free)) same n (omega arith),
       ))
       (λ (e : t (suc k) ≡ false). omega (
         arith,
@@ -96,12 +96,12 @@ module _ (n p : ℕ) (fits : n < boardRoom) (t : ℕ → Bool) where
       (either (t (suc k)))
     where
       free : member (barring c (suc k)) p ≡ false
-      free = ap (λ (x : ℕ). member x p) ((s.barring (suc k) low high).none w) ∙ member-empty p
+      free = ap (λ (x : ℕ). member x p) ((s.barring (suc k) low high).none w) ∙ member_empty p
 
       barred : member (barring (lowered c (suc k)) (suc k)) p ≡ true
       barred =
-          ap (λ (x : ℕ). member x p) (lowered-own c (suc k) (omega (arith, s.width)))
-          ∙ remove-other (waiting c) (suc k) p ne ∙ h
+          ap (λ (x : ℕ). member x p) (lowered_own c (suc k) (omega (arith, s.width)))
+          ∙ remove_other (waiting c) (suc k) p ne ∙ h
 
       gone : (x : Bool) → (x && not (member (barring (lowered c (suc k)) (suc k)) p)) ≡ false
       gone x = and_right x _ (ap not barred)
@@ -109,88 +109,88 @@ module _ (n p : ℕ) (fits : n < boardRoom) (t : ℕ → Bool) where
       same : (j : ℕ) → (j ≡ k → ⊥) → rival c j ≡ rival (lowered c (suc k)) j
       same j nj =
           ap (λ (x : Bool). t (suc j) && not x)
-          (sym (ap (λ (x : ℕ). member x p) (lowered-other c (suc k) (suc j) (λ e. nj (omega arith)))
-          ∙ remove-other (barring c (suc j)) (suc k) p ne))
+          (sym (ap (λ (x : ℕ). member x p) (lowered_other c (suc k) (suc j) (λ e. nj (omega arith)))
+          ∙ remove_other (barring c (suc j)) (suc k) p ne))
 
   -- the accepted lowers from a check on: by p none, then by boards that pass the test at most r
   abbrev Bounded : Claims → List Move → Move → ℕ → Check → Type 0
   Bounded c ms m r k =
-      lowersCounted (only p) m k + lowers (only p) (settled k c (moved c m)) ms ≡ 0
-      → lowersCounted t m k + lowers t (settled k c (moved c m)) ms ≤ r
+      lowers_counted (only p) m k + lowers (only p) (settled k c (moved c m)) ms ≡ 0
+      → lowers_counted t m k + lowers t (settled k c (moved c m)) ms ≤ r
 
   -- while p waits, they are at most the rivals
-  at-most-rivals : (ms : List Move) (c : Claims) → boardMoves n ms ≡ true → SoundClaims n c → member (waiting c) p ≡ true
+  at_most_rivals : (ms : List Move) (c : Claims) → board_moves n ms ≡ true → SoundClaims n c → member (waiting c) p ≡ true
       → lowers (only p) c ms ≡ 0 → lowers t c ms ≤ rivals c
   unfolding lowers
-  at-most-rivals [] c b s h z = omega arith
-  at-most-rivals (raise i ∷ ms) c b s h z =
-      let f = first-move n (raise i) ms b in
-      raise-elim c i (Bounded c ms (raise i) (rivals c))
-      (λ r y. omega (arith, at-most-rivals ms c f.rest s h (omega arith)))
+  at_most_rivals [] c b s h z = omega arith
+  at_most_rivals (raise i ∷ ms) c b s h z =
+      let f = first_move n (raise i) ms b in
+      raise_elim c i (Bounded c ms (raise i) (rivals c))
+      (λ r y. omega (arith, at_most_rivals ms c f.rest s h (omega arith)))
       (λ w e y. omega (
         arith,
-        rivals-raised c i,
-        at-most-rivals ms (raised c i) f.rest (raised-sound s f.low f.high fits (raise-pass c i w e))
-            (ap (λ (x : ℕ). member x p) (raised-waiting c i (omega (arith, s.width))) ∙ insert-keeps (waiting c) i p h) (omega arith),
+        rivals_raised c i,
+        at_most_rivals ms (raised c i) f.rest (raised_sound s f.low f.high fits (raise_pass c i w e))
+            (ap (λ (x : ℕ). member x p) (raised_waiting c i (omega (arith, s.width))) ∙ insert_keeps (waiting c) i p h) (omega arith),
       ))
       z
-  at-most-rivals (lower i ∷ ms) c b s h z =
-      let f = first-move n (lower i) ms b in
-      lower-elim c i (Bounded c ms (lower i) (rivals c))
-      (λ r y. omega (arith, at-most-rivals ms c f.rest s h (omega arith)))
+  at_most_rivals (lower i ∷ ms) c b s h z =
+      let f = first_move n (lower i) ms b in
+      lower_elim c i (Bounded c ms (lower i) (rivals c))
+      (λ r y. omega (arith, at_most_rivals ms c f.rest s h (omega arith)))
       (λ w y. ⊎_elim (λ (e : i ≡ p). absurd (omega (arith, ap toℕ (eq-eqb i p e))))
       (λ (ne : i ≡ p → ⊥).
       let far : p ≡ i → ⊥ = λ e. ne (sym e) in
       omega (
         arith,
-        rivals-lowered c i s f.low f.high far h w,
-        at-most-rivals ms (lowered c i) f.rest (lowered-sound s f.low f.high)
-            (ap (λ (x : ℕ). member x p) (lowered-waiting c i f.low) ∙ remove-other (waiting c) i p far ∙ h) (omega arith),
+        rivals_lowered c i s f.low f.high far h w,
+        at_most_rivals ms (lowered c i) f.rest (lowered_sound s f.low f.high)
+            (ap (λ (x : ℕ). member x p) (lowered_waiting c i f.low) ∙ remove_other (waiting c) i p far ∙ h) (omega arith),
       ))
       (same_or_not i p))
       z
 
   -- so they are at most the boards that pass the test
-  at-most-boards : (ms : List Move) (c : Claims) → boardMoves n ms ≡ true → SoundClaims n c → member (waiting c) p ≡ true
-      → lowers (only p) c ms ≡ 0 → lowers t c ms ≤ countBelow n (λ k. t (suc k))
+  at_most_boards : (ms : List Move) (c : Claims) → board_moves n ms ≡ true → SoundClaims n c → member (waiting c) p ≡ true
+      → lowers (only p) c ms ≡ 0 → lowers t c ms ≤ count_below n (λ k. t (suc k))
   unfolding rivals
-  at-most-boards ms c b s h z =
-      omega (arith, at-most-rivals ms c b s h z, count-mono (rival c) (λ k. t (suc k)) n (λ k l e. and_l (t (suc k)) _ e))
+  at_most_boards ms c b s h z =
+      omega (arith, at_most_rivals ms c b s h z, count_mono (rival c) (λ k. t (suc k)) n (λ k l e. and_l (t (suc k)) _ e))
 
 -- ---- how many boards pass the tests
 
-only_one : (n q : ℕ) → countBelow n (λ k. only q (suc k)) ≤ 1
+only_one : (n q : ℕ) → count_below n (λ k. only q (suc k)) ≤ 1
 only_one n zero = omega (arith, count_none (λ k. only 0 (suc k)) n (λ k l. ne_eqb (suc k) 0 (λ e. omega arith)))
 only_one n (suc q) =
     ⊎_elim
     (λ (l : q < n). omega (
       arith,
-      count-more (λ k. false) (λ k. only (suc q) (suc k)) q refl (eq-eqb (suc q) (suc q) refl)
+      count_more (λ k. false) (λ k. only (suc q) (suc k)) q refl (eq-eqb (suc q) (suc q) refl)
           (λ j ne. ne_eqb (suc j) (suc q) (λ e. ne (omega arith))) n l,
       count_none (λ k. false) n (λ k h. refl),
     ))
     (λ (l : n ≤ q). omega (arith, count_none (λ k. only (suc q) (suc k)) n (λ k h. ne_eqb (suc k) (suc q) (λ e. omega arith))))
-    (lt-or-le q n)
+    (lt_or_le q n)
 
-all_others : (n p : ℕ) → 1 ≤ p → p ≤ n → countBelow n (λ k. others p (suc k)) ≤ n - 1
+all_others : (n p : ℕ) → 1 ≤ p → p ≤ n → count_below n (λ k. others p (suc k)) ≤ n - 1
 all_others n zero low high = absurd (omega arith)
 all_others n (suc p) low high =
     omega (
       arith,
-      count-more (λ k. others (suc p) (suc k)) (λ k. true) p (ap not (eq-eqb (suc p) (suc p) refl)) refl
+      count_more (λ k. others (suc p) (suc k)) (λ k. true) p (ap not (eq-eqb (suc p) (suc p) refl)) refl
           (λ j ne. sym (ap not (ne_eqb (suc j) (suc p) (λ e. ne (omega arith))))) n (omega arith),
-      count-all (λ k. true) n (λ k l. refl),
+      count_all (λ k. true) n (λ k l. refl),
     )
 
 pub bypass : Bypass
 bypass n p start before between c h =
     (λ q. omega (arith, bound (only q), only_one n q), omega (arith, bound (others p), all_others n p h.low h.high))
   where
-    sound-here : SoundClaims n c
-    sound-here = rw h.reached (after-sound n before start h.fits h.moves_before (claims-facts n start h.sound))
+    sound_here : SoundClaims n c
+    sound_here = rw h.reached (after_sound n before start h.fits h.moves_before (claims_facts n start h.sound))
 
-    bound : (t : ℕ → Bool) → lowers t (raised c p) between ≤ countBelow n (λ k. t (suc k))
+    bound : (t : ℕ → Bool) → lowers t (raised c p) between ≤ count_below n (λ k. t (suc k))
     bound t =
-        at-most-boards n p h.fits t between (raised c p) h.moves-between
-        (raised-sound sound-here h.low h.high h.fits h.accepted)
-        (ap (λ (x : ℕ). member x p) (raised-waiting c p (omega (arith, sound-here.width))) ∙ insert-same (waiting c) p) h.waits
+        at_most_boards n p h.fits t between (raised c p) h.moves_between
+        (raised_sound sound_here h.low h.high h.fits h.accepted)
+        (ap (λ (x : ℕ). member x p) (raised_waiting c p (omega (arith, sound_here.width))) ∙ insert_same (waiting c) p) h.waits

@@ -1,39 +1,39 @@
 -- The laws of Boards.antt and Claims.antt beside this file, as they are stated for a reader.
 use borrow.Author.Tests.{eqb-false}
-use Rattle.spec_arbiter.specs.Boards.{boardRoom}
+use Rattle.spec_arbiter.specs.Boards.{board_room}
 use Rattle.spec_arbiter.specs.Claims.{waiting}
 use Rattle.spec_arbiter.specs.SetLaws.{SetLaws, ActiveIsLowest}
-use Rattle.spec_arbiter.proofs.Boards.{same-members, member-lt, member-empty, insert-same, insert-other, remove-same, remove-other, insert-lt, remove-lt, subset-at, subset-of, boards-lt, boards-at, boards-of, lowest-member, lowest-least, lowest-empty, lowest-lt}
-use Rattle.spec_arbiter.proofs.Claims.{claims-facts, active-known}
+use Rattle.spec_arbiter.proofs.Boards.{same_members, member_lt, member_empty, insert_same, insert_other, remove_same, remove_other, insert_lt, remove_lt, subset_at, subset_of, boards_lt, boards_at, boards_of, lowest_member, lowest_least, lowest_empty, lowest_lt}
+use Rattle.spec_arbiter.proofs.Claims.{claims_facts, active_known}
 
-pub set-laws : SetLaws
-set-laws =
+pub set_laws : SetLaws
+set_laws =
     record {
-      same = same-members boardRoom;
-      low = member-lt boardRoom;
-      none = member-empty;
-      inserted = insert-same;
-      insert-other = insert-other;
-      removed = remove-same;
-      remove-other = remove-other;
-      insert-low = insert-lt boardRoom;
-      remove-low = remove-lt boardRoom;
-      subset-at = subset-at;
-      subset-of = subset-of;
-      boards-at = boards-at;
-      boards-of = boards-of;
-      lowest-member = lowest-member;
-      lowest-least = lowest-least;
-      lowest-there = lowest-lt;
-      lowest-empty = lowest-empty;
+      same = same_members board_room;
+      low = member_lt board_room;
+      none = member_empty;
+      inserted = insert_same;
+      insert_other = insert_other;
+      removed = remove_same;
+      remove_other = remove_other;
+      insert_low = insert_lt board_room;
+      remove_low = remove_lt board_room;
+      subset_at = subset_at;
+      subset_of = subset_of;
+      boards_at = boards_at;
+      boards_of = boards_of;
+      lowest_member = lowest_member;
+      lowest_least = lowest_least;
+      lowest_there = lowest_lt;
+      lowest_empty = lowest_empty;
     }
 
-pub active-is-lowest : ActiveIsLowest
-active-is-lowest n c ok claimed =
-    let s = claims-facts n c ok in
-    let there = lowest-lt (waiting c) (boards-lt n (waiting c) s.waiting) (eqb-false _ _ claimed) in
+pub active_is_lowest : ActiveIsLowest
+active_is_lowest n c ok claimed =
+    let s = claims_facts n c ok in
+    let there = lowest_lt (waiting c) (boards_lt n (waiting c) s.waiting) (eqb-false _ _ claimed) in
     record {
-      waits = lowest-member (waiting c) there;
-      board = active-known s claimed;
-      least = lowest-least (waiting c);
+      waits = lowest_member (waiting c) there;
+      board = active_known s claimed;
+      least = lowest_least (waiting c);
     }

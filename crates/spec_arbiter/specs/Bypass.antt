@@ -3,8 +3,8 @@ use Rattle.std.specs.Prelude.{◌≡◌, ℕ, ◌+◌, ◌-◌, ◌≤◌, ◌<�
 use Rattle.spec_base.specs.Folds.{toℕ, all}
 use Rattle.spec_wire.specs.declared.Check.{Check}
 use Rattle.spec_wire.specs.declared.Check.TheVariants.{Pass, Refuse}
-use Rattle.spec_arbiter.specs.Boards.{boardRoom}
-use Rattle.spec_arbiter.specs.Claims.{Claims, raiseCheck, raised, lowerCheck, lowered, soundClaims}
+use Rattle.spec_arbiter.specs.Boards.{board_room}
+use Rattle.spec_arbiter.specs.Claims.{Claims, raise_check, raised, lower_check, lowered, sound_claims}
 
 -- a board's raise or lower, accepted or not
 pub data Move : Type 0 where
@@ -14,9 +14,9 @@ abbrev pub mover : Move → ℕ
 mover (raise i) = i
 mover (lower i) = i
 
-abbrev pub moveCheck : Claims → Move → Check
-moveCheck c (raise i) = raiseCheck c i
-moveCheck c (lower i) = lowerCheck c i
+abbrev pub move_check : Claims → Move → Check
+move_check c (raise i) = raise_check c i
+move_check c (lower i) = lower_check c i
 
 abbrev pub moved : Claims → Move → Claims
 moved c (raise i) = raised c i
@@ -24,31 +24,31 @@ moved c (lower i) = lowered c i
 
 -- a refused move changes nothing
 abbrev pub settled : Check → Claims → Claims → Claims
-settled Pass before claimsAfter = claimsAfter
-settled (Refuse r) before claimsAfter = before
+settled Pass before claims_after = claims_after
+settled (Refuse r) before claims_after = before
 
-abbrev pub claimsAfterMove : Claims → Move → Claims
-claimsAfterMove c m = settled (moveCheck c m) c (moved c m)
+abbrev pub claims_after_move : Claims → Move → Claims
+claims_after_move c m = settled (move_check c m) c (moved c m)
 
 -- the claims after the moves, refused ones among them
-unfoldable pub claimsAfter : Claims → List Move → Claims
-claimsAfter c [] = c
-claimsAfter c (m ∷ ms) = claimsAfter (claimsAfterMove c m) ms
+unfoldable pub claims_after : Claims → List Move → Claims
+claims_after c [] = c
+claims_after c (m ∷ ms) = claims_after (claims_after_move c m) ms
 
 -- 1 for an accepted lower by a board that passes the test, and 0 for any other move
-abbrev pub lowersCounted : (ℕ → Bool) → Move → Check → ℕ
-lowersCounted test (lower i) Pass = toℕ (test i)
-lowersCounted test (lower i) (Refuse r) = 0
-lowersCounted test (raise i) k = 0
+abbrev pub lowers_counted : (ℕ → Bool) → Move → Check → ℕ
+lowers_counted test (lower i) Pass = toℕ (test i)
+lowers_counted test (lower i) (Refuse r) = 0
+lowers_counted test (raise i) k = 0
 
 -- the accepted lowers by boards that pass the test, where the moves are made in order from the claims c
 unfoldable pub lowers : (ℕ → Bool) → Claims → List Move → ℕ
 lowers test c [] = 0
-lowers test c (m ∷ ms) = lowersCounted test m (moveCheck c m) + lowers test (claimsAfterMove c m) ms
+lowers test c (m ∷ ms) = lowers_counted test m (move_check c m) + lowers test (claims_after_move c m) ms
 
 -- every move is one of a board: a number from 1 to n
-unfoldable pub boardMoves : ℕ → List Move → Bool
-boardMoves n ms = all (λ m. leb 1 (mover m) && leb (mover m) n) ms
+unfoldable pub board_moves : ℕ → List Move → Bool
+board_moves n ms = all (λ m. leb 1 (mover m) && leb (mover m) n) ms
 
 -- board q alone, and every board but p
 abbrev pub only : ℕ → ℕ → Bool
@@ -60,14 +60,14 @@ others p i = not (eqb i p)
 -- The claims c, in which board p's raise is accepted, were reached from sound claims by moves of the boards 1 to n. More moves follow it,
 -- among which no lower of p is accepted.
 pub record Waits (n p : ℕ) (start : Claims) (before between : List Move) (c : Claims) : Type 0 where
-  pub fits : n < boardRoom
-  pub sound : soundClaims n start ≡ true
-  pub moves_before : boardMoves n before ≡ true
-  pub reached : c ≡ claimsAfter start before
+  pub fits : n < board_room
+  pub sound : sound_claims n start ≡ true
+  pub moves_before : board_moves n before ≡ true
+  pub reached : c ≡ claims_after start before
   pub low : 1 ≤ p
   pub high : p ≤ n
-  pub accepted : raiseCheck c p ≡ Pass
-  pub moves-between : boardMoves n between ≡ true
+  pub accepted : raise_check c p ≡ Pass
+  pub moves_between : board_moves n between ≡ true
   pub waits : lowers (only p) (raised c p) between ≡ 0
 
 -- Between a board's accepted raise and its accepted lower, or the list's end, every other board's lower is accepted at most once,

@@ -5,7 +5,7 @@ use Rattle.spec_wire.specs.declared.Refusal.TheVariants.{Waiting, Barred, NotWai
 use Rattle.spec_wire.specs.declared.Check.{Check}
 use Rattle.spec_wire.specs.declared.Check.TheVariants.{Pass}
 use Rattle.spec_wire.specs.Refusals.{when◌refuse◌else◌}
-use Rattle.spec_arbiter.specs.Boards.{member, empty, insert, remove, subset, boardsOnly, lowest}
+use Rattle.spec_arbiter.specs.Boards.{member, empty, insert, remove, subset, boards_only, lowest}
 
 -- The sets of boards of a block: at place 0 the waiting set, at place i the barring set of board i.
 abbrev pub Claims : Type 0
@@ -18,8 +18,8 @@ abbrev pub barring : Claims → ℕ → ℕ
 barring c i = get_or c i empty
 
 -- a rack of n boards, none of which waits or is barred
-abbrev pub noClaims : ℕ → Claims
-noClaims n = replicate (suc n) empty
+abbrev pub no_claims : ℕ → Claims
+no_claims n = replicate (suc n) empty
 
 abbrev pub unclaimed : Claims → Bool
 unclaimed c = eqb (waiting c) empty
@@ -30,8 +30,8 @@ active c = lowest (waiting c)
 
 -- ---- raise: the board joins the waiting set
 
-unfoldable pub raiseCheck : Claims → ℕ → Check
-raiseCheck c i =
+unfoldable pub raise_check : Claims → ℕ → Check
+raise_check c i =
     when member (waiting c) i refuse Waiting else
     when not (eqb (barring c i) empty) refuse Barred else
     Pass
@@ -41,8 +41,8 @@ raised c i = set c 0 (insert (waiting c) i)
 
 -- ---- lower: the board leaves the waiting set and every barring set; its own barring set becomes the waiting set that remains
 
-unfoldable pub lowerCheck : Claims → ℕ → Check
-lowerCheck c i =
+unfoldable pub lower_check : Claims → ℕ → Check
+lower_check c i =
     when not (member (waiting c) i) refuse NotWaiting else
     Pass
 
@@ -52,10 +52,10 @@ lowered c i = set (map (λ (s : ℕ). remove s i) c) i (remove (waiting c) i)
 -- ---- what a sound record says of a block's sets
 
 -- board i's barring set has boards 1 to n only, lies within the waiting set, and is empty where board i waits
-unfoldable pub soundBarring : ℕ → Claims → ℕ → Bool
-soundBarring n c i =
-    boardsOnly n (barring c i) && subset (barring c i) (waiting c) && implies (member (waiting c) i) (eqb (barring c i) empty)
+unfoldable pub sound_barring : ℕ → Claims → ℕ → Bool
+sound_barring n c i =
+    boards_only n (barring c i) && subset (barring c i) (waiting c) && implies (member (waiting c) i) (eqb (barring c i) empty)
 
 -- a waiting set of boards 1 to n only, and a barring set for each of them
-unfoldable pub soundClaims : ℕ → Claims → Bool
-soundClaims n c = eqb (length c) (suc n) && boardsOnly n (waiting c) && all_below n (λ i. soundBarring n c (suc i))
+unfoldable pub sound_claims : ℕ → Claims → Bool
+sound_claims n c = eqb (length c) (suc n) && boards_only n (waiting c) && all_below n (λ i. sound_barring n c (suc i))

@@ -7,27 +7,27 @@ use mathlib.Core.Bool.{Bool}
 use mathlib.Core.List.{List, [], ◌∷◌, ◌++◌, append_assoc, append-nil}
 use lib.ListN.{length, set, take, drop, length-drop, drop_of_length-le}
 use lib.Seq.{drop-drop, take-add, length-take-le}
-use Rattle.spec_base.specs.Folds.{toℕ, All, removeAt}
+use Rattle.spec_base.specs.Folds.{toℕ, All, remove_at}
 use Rattle.spec_base.specs.Number.{digits}
-use Rattle.spec_base.specs.Layout.{Layout, slice, modifyAt, overwrite, byte, flag, big, pair, iso, isoWhere, items, readItems, writeItems}
-use Rattle.spec_base.proofs.Parts.{over-behind, length_part, bytes_take, cover-room}
+use Rattle.spec_base.specs.Layout.{Layout, slice, modify_at, overwrite, byte, flag, big, pair, iso, iso_where, items, read_items, write_items}
+use Rattle.spec_base.proofs.Parts.{over_behind, length_part, bytes_take, cover_room}
 use Rattle.spec_base.proofs.Numbers.{length_digits}
-use Rattle.spec_base.proofs.Laws.{Lawful, Items, StandItems, stands-item, stand-rest}
-use Rattle.spec_base.proofs.Places.{over-past}
+use Rattle.spec_base.proofs.Laws.{Lawful, Items, StandItems, stands_item, stand_rest}
+use Rattle.spec_base.proofs.Places.{over_past}
 
 -- ---- one item more
 
 module _ {A : Type 0} (L : Layout A) {P : A → Type 0} (λL : Lawful L P) where
   pub items_more : (xs : List A) (v : A) (s : List ℕ) → suc (length xs) * L.size ≤ length s
-      → writeItems L (xs ++ (v ∷ [])) s ≡ modifyAt (length xs * L.size) L.size (L.write v) (writeItems L xs s)
+      → write_items L (xs ++ (v ∷ [])) s ≡ modify_at (length xs * L.size) L.size (L.write v) (write_items L xs s)
   items_more [] v s l =
       ap (λ (k : ℕ). L.write v (take L.size s) ++ drop k s) (sym (zero-add L.size))
-      ∙ ap (λ (k : ℕ). modifyAt k L.size (L.write v) s) (sym (zero-mul L.size))
+      ∙ ap (λ (k : ℕ). modify_at k L.size (L.write v) s) (sym (zero-mul L.size))
   items_more (x ∷ xs) v s l =
       let r : length xs * L.size + L.size + L.size ≤ length s = omega arith in
       ap (λ (t : List ℕ). L.write x (take L.size s) ++ t) (items_more xs v (drop L.size s) (simp length-drop (omega arith)))
-      ∙ sym (over-past (L.write v) L.size (length xs * L.size) L.size (L.write x (take L.size s)) (writeItems L xs (drop L.size s)) (λL.keeps x (take L.size s) ∙ length-take-le L.size s (omega arith)))
-      ∙ ap (λ (k : ℕ). modifyAt k L.size (L.write v) (writeItems L (x ∷ xs) s)) (add_comm L.size (length xs * L.size) ∙ sym (suc-mul (length xs) L.size))
+      ∙ sym (over_past (L.write v) L.size (length xs * L.size) L.size (L.write x (take L.size s)) (write_items L xs (drop L.size s)) (λL.keeps x (take L.size s) ∙ length-take-le L.size s (omega arith)))
+      ∙ ap (λ (k : ℕ). modify_at k L.size (L.write v) (write_items L (x ∷ xs) s)) (add_comm L.size (length xs * L.size) ∙ sym (suc-mul (length xs) L.size))
 
 -- ---- layouts that leave none of their bytes as it was
 
@@ -41,25 +41,25 @@ one_set v (x ∷ []) (y ∷ []) p q = refl
 one_set v (x ∷ []) (y ∷ z ∷ t) p q = let e : suc (suc (length t)) ≡ 1 = q in absurd (omega arith)
 one_set v (x ∷ y ∷ s) t p q = let e : suc (suc (length s)) ≡ 1 = p in absurd (omega arith)
 
-pub full-byte : Full byte (λ v. v < 256)
-full-byte = record { fills = λ v o s t p q. one_set v s t p q }
+pub full_byte : Full byte (λ v. v < 256)
+full_byte = record { fills = λ v o s t p q. one_set v s t p q }
 
-pub full-flag : Full flag (λ v. Unit {0})
-full-flag = record { fills = λ v o s t p q. one_set (toℕ v) s t p q }
+pub full_flag : Full flag (λ v. Unit {0})
+full_flag = record { fills = λ v o s t p q. one_set (toℕ v) s t p q }
 
 module _ (n : ℕ) where
   alone : (v : ℕ) (s : List ℕ) → length s ≡ n → overwrite (digits n v) s ≡ digits n v
   alone v s p =
-      cover-room (digits n v) s (le_of_eq (length_digits n v ∙ sym p))
+      cover_room (digits n v) s (le_of_eq (length_digits n v ∙ sym p))
       ∙ ap (λ (r : List ℕ). digits n v ++ r) (drop_of_length-le s (le_of_eq (p ∙ sym (length_digits n v))))
       ∙ append-nil (digits n v)
 
-  pub full-big : Full (big n) (λ v. v < 256 ^ n)
-  full-big = record { fills = λ v o s t p q. alone v s p ∙ sym (alone v t q) }
+  pub full_big : Full (big n) (λ v. v < 256 ^ n)
+  full_big = record { fills = λ v o s t p q. alone v s p ∙ sym (alone v t q) }
 
 module _ {A B : Type 0} (L : Layout A) (M : Layout B) {P : A → Type 0} {Q : B → Type 0} where
-  pub full-pair : Full L P → Full M Q → Full (pair L M) (λ v. P v.0 × Q v.1)
-  full-pair F G = record {
+  pub full_pair : Full L P → Full M Q → Full (pair L M) (λ v. P v.0 × Q v.1)
+  full_pair F G = record {
     fills = λ v o s t p q. λ i.
         F.fills v.0 o.0 (take L.size s) (take L.size t) (length-take-le L.size s (omega arith)) (length-take-le L.size t (omega arith)) i
         ++ (G.fills v.1 o.1 (slice L.size M.size s) (slice L.size M.size t) (length_part L.size M.size s (omega arith)) (length_part L.size M.size t (omega arith)) i
@@ -67,64 +67,64 @@ module _ {A B : Type 0} (L : Layout A) (M : Layout B) {P : A → Type 0} {Q : B 
   }
 
 module _ {A B : Type 0} (L : Layout A) (to : A → B) (from : B → A) {P : A → Type 0} {Q : B → Type 0} where
-  pub full-iso : ((b : B) → Q b → P (from b)) → Full L P → Full (iso L to from) Q
-  full-iso here F = record { fills = λ v o s t p q. F.fills (from v) (here v o) s t p q }
+  pub full_iso : ((b : B) → Q b → P (from b)) → Full L P → Full (iso L to from) Q
+  full_iso here F = record { fills = λ v o s t p q. F.fills (from v) (here v o) s t p q }
 
-  pub full-where : (test : A → Bool) → ((b : B) → Q b → P (from b)) → Full L P → Full (isoWhere L test to from) Q
-  full-where test here F = record { fills = λ v o s t p q. F.fills (from v) (here v o) s t p q }
+  pub full_where : (test : A → Bool) → ((b : B) → Q b → P (from b)) → Full L P → Full (iso_where L test to from) Q
+  full_where test here F = record { fills = λ v o s t p q. F.fills (from v) (here v o) s t p q }
 
 module _ {A : Type 0} (L : Layout A) {P : A → Type 0} where
-  full-list : Full L P → (xs : List A) → All P xs → (s t : List ℕ) → length s ≡ length xs * L.size → length t ≡ length xs * L.size → writeItems L xs s ≡ writeItems L xs t
-  full-list F [] o s t p q = drop_of_length-le s {i = 0} (omega arith) ∙ sym (drop_of_length-le t {i = 0} (omega arith))
-  full-list F (x ∷ xs) o s t p q =
+  full_list : Full L P → (xs : List A) → All P xs → (s t : List ℕ) → length s ≡ length xs * L.size → length t ≡ length xs * L.size → write_items L xs s ≡ write_items L xs t
+  full_list F [] o s t p q = drop_of_length-le s {i = 0} (omega arith) ∙ sym (drop_of_length-le t {i = 0} (omega arith))
+  full_list F (x ∷ xs) o s t p q =
       let ls : length s ≡ length xs * L.size + L.size = omega arith in
       let lt : length t ≡ length xs * L.size + L.size = omega arith in
       λ i.
       F.fills x o.0 (take L.size s) (take L.size t) (length-take-le L.size s (omega arith)) (length-take-le L.size t (omega arith)) i
-      ++ full-list F xs o.1 (drop L.size s) (drop L.size t) (simp length-drop (omega arith)) (simp length-drop (omega arith)) i
+      ++ full_list F xs o.1 (drop L.size s) (drop L.size t) (simp length-drop (omega arith)) (simp length-drop (omega arith)) i
 
-  pub full-items : Full L P → (n : ℕ) → Full (items L n n) (Items P n)
-  full-items F n =
-      record { fills = λ xs o s t p q. full-list F xs o.1 s t (p ∙ ap (λ (k : ℕ). k * L.size) (sym o.0)) (q ∙ ap (λ (k : ℕ). k * L.size) (sym o.0)) }
+  pub full_items : Full L P → (n : ℕ) → Full (items L n n) (Items P n)
+  full_items F n =
+      record { fills = λ xs o s t p q. full_list F xs o.1 s t (p ∙ ap (λ (k : ℕ). k * L.size) (sym o.0)) (q ∙ ap (λ (k : ℕ). k * L.size) (sym o.0)) }
 
 -- ---- items copied, and an item removed
 
 next : (p k : ℕ) → k + p * k ≡ suc p * k
 next p k = add_comm k (p * k) ∙ sym (suc-mul p k)
 
-front-removed : (n k : ℕ) (s : List ℕ) → take (n * k) (drop k s) ++ drop (n * k) s ≡ modifyAt (0 * k) ((n - 0) * k) (λ r. slice (1 * k) ((n - 0) * k) s) s
-front-removed n k s = simp (zero-mul, sub-zero, one-mul, zero-add)
+front_removed : (n k : ℕ) (s : List ℕ) → take (n * k) (drop k s) ++ drop (n * k) s ≡ modify_at (0 * k) ((n - 0) * k) (λ r. slice (1 * k) ((n - 0) * k) s) s
+front_removed n k s = simp (zero-mul, sub-zero, one-mul, zero-add)
 
 module _ {A : Type 0} (L : Layout A) {P : A → Type 0} (λL : Lawful L P) (F : Full L P) where
   -- items read from one list and written over another
-  pub items-copied : (n : ℕ) (u s : List ℕ) → StandItems L n u → n * L.size ≤ length s
-      → writeItems L (readItems L n u) s ≡ take (n * L.size) u ++ drop (n * L.size) s
-  items-copied zero u s h ls = ap (λ (k : ℕ). take k u ++ drop k s) (sym (zero-mul L.size))
-  items-copied (suc n) u s h ls =
+  pub items_copied : (n : ℕ) (u s : List ℕ) → StandItems L n u → n * L.size ≤ length s
+      → write_items L (read_items L n u) s ≡ take (n * L.size) u ++ drop (n * L.size) s
+  items_copied zero u s h ls = ap (λ (k : ℕ). take k u ++ drop k s) (sym (zero-mul L.size))
+  items_copied (suc n) u s h ls =
       let k : ℕ = L.size in
       let hu : n * k + k ≤ length u = omega (arith, h.room) in
       let hs : n * k + k ≤ length s = omega arith in
       (λ i.
       (F.fills (L.read (take k u)) (λL.holds (take k u) (bytes_take k u h.bytes)) (take k s) (take k u) (length-take-le k s (omega arith)) (length-take-le k u (omega arith))
-      ∙ λL.unchanged (take k u) (stands-item L n u h)) i
-      ++ items-copied n (drop k u) (drop k s) (stand-rest L n u h) (simp length-drop (omega arith)) i)
+      ∙ λL.unchanged (take k u) (stands_item L n u h)) i
+      ++ items_copied n (drop k u) (drop k s) (stand_rest L n u h) (simp length-drop (omega arith)) i)
       ∙ sym (append_assoc (take k u) (take (n * k) (drop k u)) (drop (n * k) (drop k s)))
       ∙ (λ i. sym (take-add k (n * k) u) i ++ drop-drop (n * k) k s i)
       ∙ ap (λ (j : ℕ). take j u ++ drop j s) (next n k)
 
   -- an item is removed, the rest moving up: the bytes behind it are copied over its own
-  pub items-removed : (n p : ℕ) (s : List ℕ) → p ≤ n → StandItems L (suc n) s
-      → writeItems L (removeAt (readItems L (suc n) s) p) s ≡ modifyAt (p * L.size) ((n - p) * L.size) (λ r. slice (suc p * L.size) ((n - p) * L.size) s) s
-  items-removed n zero s h t =
+  pub items_removed : (n p : ℕ) (s : List ℕ) → p ≤ n → StandItems L (suc n) s
+      → write_items L (remove_at (read_items L (suc n) s) p) s ≡ modify_at (p * L.size) ((n - p) * L.size) (λ r. slice (suc p * L.size) ((n - p) * L.size) s) s
+  items_removed n zero s h t =
       let k : ℕ = L.size in
       let hs : n * k + k ≤ length s = omega (arith, t.room) in
-      items-copied n (drop k s) s (stand-rest L n s t) (omega arith)
-      ∙ front-removed n k s
-  items-removed zero (suc p) s h t = absurd (not-suc-le-zero h)
-  items-removed (suc n) (suc p) s h t =
+      items_copied n (drop k s) s (stand_rest L n s t) (omega arith)
+      ∙ front_removed n k s
+  items_removed zero (suc p) s h t = absurd (not-suc-le-zero h)
+  items_removed (suc n) (suc p) s h t =
       let k : ℕ = L.size in
-      (λ i. λL.unchanged (take k s) (stands-item L (suc n) s t) i
-      ++ items-removed n p (drop k s) (le_of_suc-le-suc h) (stand-rest L (suc n) s t) i)
-      ∙ over-behind (λ r. slice (suc p * k) ((n - p) * k) (drop k s)) k (p * k) ((n - p) * k) s
-      ∙ (λ i. modifyAt (next p k i) ((n - p) * k) (λ r. take ((n - p) * k) (drop-drop (suc p * k) k s i)) s)
-      ∙ (λ i. modifyAt (suc p * k) (sym (suc-sub-suc n p) i * k) (λ r. slice (next (suc p) k i) (sym (suc-sub-suc n p) i * k) s) s)
+      (λ i. λL.unchanged (take k s) (stands_item L (suc n) s t) i
+      ++ items_removed n p (drop k s) (le_of_suc-le-suc h) (stand_rest L (suc n) s t) i)
+      ∙ over_behind (λ r. slice (suc p * k) ((n - p) * k) (drop k s)) k (p * k) ((n - p) * k) s
+      ∙ (λ i. modify_at (next p k i) ((n - p) * k) (λ r. take ((n - p) * k) (drop-drop (suc p * k) k s i)) s)
+      ∙ (λ i. modify_at (suc p * k) (sym (suc-sub-suc n p) i * k) (λ r. slice (next (suc p) k i) (sym (suc-sub-suc n p) i * k) s) s)

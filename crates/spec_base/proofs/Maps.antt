@@ -9,38 +9,38 @@ use lib.ListN.{length, get_or, set}
 
 module _ {A : Type 0} (f : A → A) where
   -- f at the first n elements of l
-  unfoldable pub mapFirst : ℕ → List A → List A
-  mapFirst zero l = l
-  mapFirst (suc n) [] = []
-  mapFirst (suc n) (x ∷ xs) = f x ∷ mapFirst n xs
+  unfoldable pub map_first : ℕ → List A → List A
+  map_first zero l = l
+  map_first (suc n) [] = []
+  map_first (suc n) (x ∷ xs) = f x ∷ map_first n xs
 
-  pub mapFirst-none : (l : List A) → mapFirst 0 l ≡ l
-  unfolding mapFirst
-  mapFirst-none l = refl
+  pub map_first_none : (l : List A) → map_first 0 l ≡ l
+  unfolding map_first
+  map_first_none l = refl
 
-  pub mapFirst-all : (n : ℕ) (l : List A) → length l ≤ n → mapFirst n l ≡ map f l
-  unfolding mapFirst
-  mapFirst-all zero [] h = refl
-  mapFirst-all zero (x ∷ xs) h = absurd (omega arith)
-  mapFirst-all (suc n) [] h = refl
-  mapFirst-all (suc n) (x ∷ xs) h = ap {B = List A} (λ r. f x ∷ r) (mapFirst-all n xs (le_of_suc-le-suc h))
+  pub map_first_all : (n : ℕ) (l : List A) → length l ≤ n → map_first n l ≡ map f l
+  unfolding map_first
+  map_first_all zero [] h = refl
+  map_first_all zero (x ∷ xs) h = absurd (omega arith)
+  map_first_all (suc n) [] h = refl
+  map_first_all (suc n) (x ∷ xs) h = ap {B = List A} (λ r. f x ∷ r) (map_first_all n xs (le_of_suc-le-suc h))
 
   -- the elements from n on are as they were
-  pub getD-mapFirst : (n i : ℕ) (l : List A) (d : A) → n ≤ i → get_or (mapFirst n l) i d ≡ get_or l i d
-  unfolding mapFirst
-  getD-mapFirst zero i l d h = refl
-  getD-mapFirst (suc n) i [] d h = refl
-  getD-mapFirst (suc n) zero (x ∷ xs) d h = absurd (omega arith)
-  getD-mapFirst (suc n) (suc i) (x ∷ xs) d h = getD-mapFirst n i xs d (le_of_suc-le-suc h)
+  pub get_d_map_first : (n i : ℕ) (l : List A) (d : A) → n ≤ i → get_or (map_first n l) i d ≡ get_or l i d
+  unfolding map_first
+  get_d_map_first zero i l d h = refl
+  get_d_map_first (suc n) i [] d h = refl
+  get_d_map_first (suc n) zero (x ∷ xs) d h = absurd (omega arith)
+  get_d_map_first (suc n) (suc i) (x ∷ xs) d h = get_d_map_first n i xs d (le_of_suc-le-suc h)
 
-  more : (n : ℕ) (l : List A) (d : A) → n < length l → set (mapFirst n l) n (f (get_or l n d)) ≡ mapFirst (suc n) l
-  unfolding mapFirst
+  more : (n : ℕ) (l : List A) (d : A) → n < length l → set (map_first n l) n (f (get_or l n d)) ≡ map_first (suc n) l
+  unfolding map_first
   more n [] d h = absurd (omega arith)
   more zero (x ∷ xs) d h = refl
   more (suc n) (x ∷ xs) d h = ap {B = List A} (λ r. f x ∷ r) (more n xs d (le_of_suc-le-suc h))
 
   -- one element more
-  pub mapFirst-more : (n : ℕ) (l : List A) (d : A) → n < length l → set (mapFirst n l) n (f (get_or (mapFirst n l) n d)) ≡ mapFirst (n + 1) l
-  mapFirst-more n l d h =
-      ap (λ (x : A). set (mapFirst n l) n (f x)) (getD-mapFirst n n l d (omega arith))
-      ∙ more n l d h ∙ ap (λ (k : ℕ). mapFirst k l) (sym (add-one n))
+  pub map_first_more : (n : ℕ) (l : List A) (d : A) → n < length l → set (map_first n l) n (f (get_or (map_first n l) n d)) ≡ map_first (n + 1) l
+  map_first_more n l d h =
+      ap (λ (x : A). set (map_first n l) n (f x)) (get_d_map_first n n l d (omega arith))
+      ∙ more n l d h ∙ ap (λ (k : ℕ). map_first k l) (sym (add-one n))

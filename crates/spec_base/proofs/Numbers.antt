@@ -7,16 +7,16 @@ use native.Mathlib.Nat.{pow-suc, pow-le-pow_right, add-zero, zero-add}
 use mathlib.Core.List.{List, [], ◌∷◌, ◌++◌}
 use lib.ListN.{length, take, drop, get_or, set, length-append}
 use lib.Seq.{drop-cons, set_split, drop_at, length-take-le, append_snoc}
-use Rattle.spec_base.specs.Number.{Bytes, number, numberFrom, digits, ByteNumbers}
-use Rattle.spec_base.proofs.Parts.{bytes-append}
+use Rattle.spec_base.specs.Number.{Bytes, number, number_from, digits, ByteNumbers}
+use Rattle.spec_base.proofs.Parts.{bytes_append}
 
 pub length_digits : (n v : ℕ) → length (digits n v) ≡ n
 length_digits zero v = refl
 length_digits (suc n) v = simp (length-append, length_digits n (v / 256), add-one)
 
-pub bytes-digits : (n v : ℕ) → Bytes (digits n v)
-bytes-digits zero v i = omega arith
-bytes-digits (suc n) v i = bytes-append (digits n (v / 256)) (v % 256 ∷ []) (bytes-digits n (v / 256)) last i
+pub bytes_digits : (n v : ℕ) → Bytes (digits n v)
+bytes_digits zero v i = omega arith
+bytes_digits (suc n) v i = bytes_append (digits n (v / 256)) (v % 256 ∷ []) (bytes_digits n (v / 256)) last i
   where
     last : Bytes (v % 256 ∷ [])
     last zero = omega arith
@@ -24,33 +24,33 @@ bytes-digits (suc n) v i = bytes-append (digits n (v / 256)) (v % 256 ∷ []) (b
 
 -- ---- written and read
 
-number-snoc : (a : ℕ) (xs : List ℕ) (b : ℕ) → numberFrom a (xs ++ (b ∷ [])) ≡ numberFrom a xs * 256 + b
-number-snoc a [] b = refl
-number-snoc a (x ∷ xs) b = number-snoc (a * 256 + x) xs b
+number_snoc : (a : ℕ) (xs : List ℕ) (b : ℕ) → number_from a (xs ++ (b ∷ [])) ≡ number_from a xs * 256 + b
+number_snoc a [] b = refl
+number_snoc a (x ∷ xs) b = number_snoc (a * 256 + x) xs b
 
 pub number_digits : (n v : ℕ) → v < 256 ^ n → number (digits n v) ≡ v
 number_digits zero v h = omega arith
 number_digits (suc n) v h =
     let high : v / 256 < 256 ^ n = omega (arith, rw pow-suc at h) in
-    number-snoc 0 (digits n (v / 256)) (v % 256) ∙ rw (number_digits n (v / 256) high) (omega arith)
+    number_snoc 0 (digits n (v / 256)) (v % 256) ∙ rw (number_digits n (v / 256) high) (omega arith)
 
 -- ---- read and written
 
 -- a number of i bytes, with one byte more
-pub number-grows : (i : ℕ) {a b : ℕ} → a < 256 ^ i → b < 256 → a * 256 + b < 256 ^ (i + 1)
-number-grows i h k = rw (add-one, pow-suc) (omega arith)
+pub number_grows : (i : ℕ) {a b : ℕ} → a < 256 ^ i → b < 256 → a * 256 + b < 256 ^ (i + 1)
+number_grows i h k = rw (add-one, pow-suc) (omega arith)
 
-number-from-below : (bs : List ℕ) (i a : ℕ) → a < 256 ^ i → Bytes bs → numberFrom a bs < 256 ^ (i + length bs)
-number-from-below [] i a h k = rw add-zero h
-number-from-below (b ∷ bs) i a h k =
+number_from_below : (bs : List ℕ) (i a : ℕ) → a < 256 ^ i → Bytes bs → number_from a bs < 256 ^ (i + length bs)
+number_from_below [] i a h k = rw add-zero h
+number_from_below (b ∷ bs) i a h k =
     let one_more : i + 1 + length bs ≡ i + suc (length bs) = omega arith in
-    rw one_more at (number-from-below bs (i + 1) (a * 256 + b) (number-grows i h (k 0)) (λ j. k (suc j)))
+    rw one_more at (number_from_below bs (i + 1) (a * 256 + b) (number_grows i h (k 0)) (λ j. k (suc j)))
 
-pub number-below : (bs : List ℕ) → Bytes bs → number bs < 256 ^ length bs
-number-below bs k = rw zero-add at (number-from-below bs 0 0 (omega arith) k)
+pub number_below : (bs : List ℕ) → Bytes bs → number bs < 256 ^ length bs
+number_below bs k = rw zero-add at (number_from_below bs 0 0 (omega arith) k)
 
 -- as many bytes that make the same number are the same
-number_same : (xs ys : List ℕ) (a b : ℕ) → length xs ≡ length ys → Bytes xs → Bytes ys → numberFrom a xs ≡ numberFrom b ys → (a ≡ b) × (xs ≡ ys)
+number_same : (xs ys : List ℕ) (a b : ℕ) → length xs ≡ length ys → Bytes xs → Bytes ys → number_from a xs ≡ number_from b ys → (a ≡ b) × (xs ≡ ys)
 number_same [] [] a b l h k e = (e, refl)
 number_same [] (y ∷ ys) a b l h k e = absurd (omega arith)
 number_same (x ∷ xs) [] a b l h k e = absurd (omega arith)
@@ -61,23 +61,23 @@ number_same (x ∷ xs) (y ∷ ys) a b l h k e =
 
 pub digits_number : (bs : List ℕ) → Bytes bs → digits (length bs) (number bs) ≡ bs
 digits_number bs k =
-    (number_same (digits (length bs) (number bs)) bs 0 0 (length_digits (length bs) (number bs)) (bytes-digits (length bs) (number bs)) k (number_digits (length bs) (number bs) (number-below bs k))).1
+    (number_same (digits (length bs) (number bs)) bs 0 0 (length_digits (length bs) (number bs)) (bytes_digits (length bs) (number bs)) k (number_digits (length bs) (number bs) (number_below bs k))).1
 
-pub byte-numbers : ByteNumbers
-byte-numbers =
+pub byte_numbers : ByteNumbers
+byte_numbers =
     record {
       size = length_digits;
-      bytes = bytes-digits;
-      written-and-read = number_digits;
-      read-and-written = digits_number;
-      below = number-below;
+      bytes = bytes_digits;
+      written_and_read = number_digits;
+      read_and_written = digits_number;
+      below = number_below;
     }
 
 -- ---- as loops go
 
 -- one byte more is read
-pub number-next : (bs : List ℕ) (a i : ℕ) → i < length bs → numberFrom (a * 256 + get_or bs i 0) (drop (i + 1) bs) ≡ numberFrom a (drop i bs)
-number-next bs a i h = rw (add-one, drop-cons bs i 0)
+pub number_next : (bs : List ℕ) (a i : ℕ) → i < length bs → number_from (a * 256 + get_or bs i 0) (drop (i + 1) bs) ≡ number_from a (drop i bs)
+number_next bs a i h = rw (add-one, drop-cons bs i 0)
 
 -- where at most three bytes have been read, there is room for one more in 32 bits
 pub number_fits : (i : ℕ) {a : ℕ} → a < 256 ^ i → i < 4 → a < 0x100_0000
@@ -86,17 +86,17 @@ number_fits i {a} h k =
     omega (arith, pow-le-pow_right {n = 256} (omega arith) most)
 
 -- the low byte of a number of i bytes, stored at the last of i places
-pub digits-next : (i v : ℕ) (out : List ℕ) → 0 < i → i ≤ length out → digits (i - 1) (v / 256) ++ drop (i - 1) (set out (i - 1) (v % 256)) ≡ digits i v ++ drop i out
-digits-next zero v out h k = absurd (omega arith)
-digits-next (suc j) v out h k =
+pub digits_next : (i v : ℕ) (out : List ℕ) → 0 < i → i ≤ length out → digits (i - 1) (v / 256) ++ drop (i - 1) (set out (i - 1) (v % 256)) ≡ digits i v ++ drop i out
+digits_next zero v out h k = absurd (omega arith)
+digits_next (suc j) v out h k =
     let low : suc j - 1 ≡ j = omega arith in
     rw low
     (rw (set_split out j (v % 256) k, drop_at (take j out) (v % 256 ∷ drop (suc j) out) j (length-take-le j out (omega arith)))
     (sym (append_snoc (digits j (v / 256)) (v % 256) (drop (suc j) out))))
 
 -- two bytes from a place on, and the number that they make
-pub number-two : (p : ℕ) (s : List ℕ) → p + 2 ≤ length s → number (take 2 (drop p s)) ≡ get_or s p 0 * 256 + get_or s (p + 1) 0
-number-two p s l =
+pub number_two : (p : ℕ) (s : List ℕ) → p + 2 ≤ length s → number (take 2 (drop p s)) ≡ get_or s p 0 * 256 + get_or s (p + 1) 0
+number_two p s l =
     let first : p < length s = omega arith in
     let second : suc p < length s = omega arith in
     rw (drop-cons s p 0 first, drop-cons s (suc p) 0 second, add-one) (omega arith)
@@ -110,6 +110,6 @@ four zero (a ∷ b ∷ c ∷ []) l = absurd (omega arith)
 four zero (a ∷ b ∷ c ∷ d ∷ s) l = refl
 four (suc p) (x ∷ s) l = simp unary_clauses (simp unary_clauses at (four p s (omega arith)))
 
-pub number-four : (p : ℕ) (s : List ℕ) → p + 4 ≤ length s
+pub number_four : (p : ℕ) (s : List ℕ) → p + 4 ≤ length s
     → number (take 4 (drop p s)) ≡ get_or s p 0 * 16777216 + get_or s (p + 1) 0 * 65536 + get_or s (p + 2) 0 * 256 + get_or s (p + 3) 0
-number-four p s l = ap (λ (t : List ℕ). number (take 4 t)) (four p s l) ∙ omega arith
+number_four p s l = ap (λ (t : List ℕ). number (take 4 t)) (four p s l) ∙ omega arith

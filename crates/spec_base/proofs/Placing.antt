@@ -11,18 +11,18 @@ use borrow.Rule.Slice.PartMut.{put_mid}
 use Rattle.spec_base.specs.Placing.{place}
 use Rattle.spec_base.proofs.Lists.{rest_all}
 
-pub length-place : (at : ℕ) (bs out : List ℕ) → at + length bs ≤ length out → length (place at bs out) ≡ length out
+pub length_place : (at : ℕ) (bs out : List ℕ) → at + length bs ≤ length out → length (place at bs out) ≡ length out
 unfolding place
-length-place at bs out h = simp (length-append, length-drop, length-take-le at out (omega arith)) (omega arith)
+length_place at bs out h = simp (length-append, length-drop, length-take-le at out (omega arith)) (omega arith)
 
 pub place_none : (at : ℕ) (out : List ℕ) → place at [] out ≡ out
 unfolding place
 place_none at out = rw add-zero (take-append-drop at out)
 
 -- one run after the other
-pub place-more : (at : ℕ) (a b out : List ℕ) → at ≤ length out → place (at + length a) b (place at a out) ≡ place at (a ++ b) out
+pub place_more : (at : ℕ) (a b out : List ℕ) → at ≤ length out → place (at + length a) b (place at a out) ≡ place at (a ++ b) out
 unfolding place
-place-more at a b out h =
+place_more at a b out h =
     let rest : List ℕ = drop (at + length a) out in
     let front : length (take at out ++ a) ≡ at + length a = simp (length-append, length-take-le at out h) in
     let after : drop (at + length a + length b) (take at out ++ a ++ rest) ≡ drop (at + length a + length b) out =
@@ -38,9 +38,9 @@ unfolding place
 place_byte at x out h = rw (add-one at) (set_split out at x h)
 
 -- a part that was lent and written over
-pub place-part : (at k : ℕ) (bs out : List ℕ) → length bs ≡ k → put_mid at k out bs ≡ place at bs out
+pub place_part : (at k : ℕ) (bs out : List ℕ) → length bs ≡ k → put_mid at k out bs ≡ place at bs out
 unfolding place
-place-part at k bs out e = rw (← e, drop-drop (length bs) at out)
+place_part at k bs out e = rw (← e, drop-drop (length bs) at out)
 
 -- the rest of the buffer, lent from an offset on
 pub place_rest : (at : ℕ) (bs out : List ℕ) → at + length bs ≤ length out → put_mid at (length out - at) out (place 0 bs (take (length out - at) (drop at out))) ≡ place at bs out
@@ -53,14 +53,14 @@ place_rest at bs out h =
 abbrev pub Placed : ℕ → List ℕ → List ℕ → ℕ → List ℕ → Type 0
 Placed at bs out next out' = (next ≡ at + length bs) × (out' ≡ place at bs out)
 
-pub placed-none : (at : ℕ) (out : List ℕ) → Placed at [] out at out
-placed-none at out = (sym (add-zero at), sym (place_none at out))
+pub placed_none : (at : ℕ) (out : List ℕ) → Placed at [] out at out
+placed_none at out = (sym (add-zero at), sym (place_none at out))
 
 -- one run after the other
-pub placed-more : (at m next : ℕ) (a b out out' out'' : List ℕ) → at ≤ length out → Placed at a out m out' → Placed m b out' next out'' → Placed at (a ++ b) out next out''
-placed-more at m next a b out out' out'' h (p, q) (p', q') = (
+pub placed_more : (at m next : ℕ) (a b out out' out'' : List ℕ) → at ≤ length out → Placed at a out m out' → Placed m b out' next out'' → Placed at (a ++ b) out next out''
+placed_more at m next a b out out' out'' h (p, q) (p', q') = (
   omega (arith, length-append a b),
-  q' ∙ (λ i. place (p i) b (q i)) ∙ place-more at a b out h,
+  q' ∙ (λ i. place (p i) b (q i)) ∙ place_more at a b out h,
 )
 
 -- the same bytes

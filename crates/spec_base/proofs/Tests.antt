@@ -24,8 +24,8 @@ same_or_not i j = pick (ℕ_discrete i j)
     pick (yes e) = inl e
     pick (no f) = inr f
 
-pub lt-or-le : (a b : ℕ) → (a < b) ⊎ (b ≤ a)
-lt-or-le a b = pick (dec_lt a b)
+pub lt_or_le : (a b : ℕ) → (a < b) ⊎ (b ≤ a)
+lt_or_le a b = pick (dec_lt a b)
   where
     pick : Dec (a < b) → (a < b) ⊎ (b ≤ a)
     pick (yes l) = inl l
@@ -41,9 +41,9 @@ pub and_r : (a b : Bool) → (a && b) ≡ true → b ≡ true
 and_r true b h = h
 and_r false b h = differs (sym h)
 
-pub and-of : (a b : Bool) → a ≡ true → b ≡ true → (a && b) ≡ true
-and-of true b h k = k
-and-of false b h k = h
+pub and_of : (a b : Bool) → a ≡ true → b ≡ true → (a && b) ≡ true
+and_of true b h k = k
+and_of false b h k = h
 
 -- a part that fails fails the whole
 pub and_left : (a b : Bool) → a ≡ false → (a && b) ≡ false
@@ -54,17 +54,17 @@ pub and_right : (a b : Bool) → b ≡ false → (a && b) ≡ false
 and_right true b e = e
 and_right false b e = refl
 
-pub and-true : (a : Bool) → (a && true) ≡ a
-and-true true = refl
-and-true false = refl
+pub and_true : (a : Bool) → (a && true) ≡ a
+and_true true = refl
+and_true false = refl
 
 -- what stands behind a test may use that it passed
-pub and-under : (a b c : Bool) → (a ≡ true → b ≡ c) → (a && b) ≡ (a && c)
-and-under true b c f = f refl
-and-under false b c f = refl
+pub and_under : (a b c : Bool) → (a ≡ true → b ≡ c) → (a && b) ≡ (a && c)
+and_under true b c f = f refl
+and_under false b c f = refl
 
-pub and-known : (a b : Bool) → a ≡ true → (a && b) ≡ b
-and-known a b e = ap (λ (t : Bool). t && b) e
+pub and_known : (a b : Bool) → a ≡ true → (a && b) ≡ b
+and_known a b e = ap (λ (t : Bool). t && b) e
 
 -- ---- or
 
@@ -84,9 +84,9 @@ pub or_right : (a b : Bool) → b ≡ true → (a || b) ≡ true
 or_right true b e = refl
 or_right false b e = e
 
-pub or-none : (a b : Bool) → a ≡ false → b ≡ false → (a || b) ≡ false
-or-none true b e h = e
-or-none false b e h = h
+pub or_none : (a b : Bool) → a ≡ false → b ≡ false → (a || b) ≡ false
+or_none true b e h = e
+or_none false b e h = h
 
 -- ---- not
 
@@ -94,9 +94,9 @@ pub not_of_false : (a : Bool) → a ≡ false → not a ≡ true
 not_of_false true e = differs e
 not_of_false false e = refl
 
-pub not-of-true : (a : Bool) → a ≡ true → not a ≡ false
-not-of-true true e = refl
-not-of-true false e = differs (sym e)
+pub not_of_true : (a : Bool) → a ≡ true → not a ≡ false
+not_of_true true e = refl
+not_of_true false e = differs (sym e)
 
 -- ---- implies
 
@@ -104,9 +104,9 @@ pub implied : (a b : Bool) → implies a b ≡ true → a ≡ true → b ≡ tru
 implied true b h e = h
 implied false b h e = differs (sym e)
 
-pub implies-of : (a b : Bool) → (a ≡ true → b ≡ true) → implies a b ≡ true
-implies-of true b f = f refl
-implies-of false b f = refl
+pub implies_of : (a b : Bool) → (a ≡ true → b ≡ true) → implies a b ≡ true
+implies_of true b f = f refl
+implies_of false b f = refl
 
 -- two tests that pass in the same cases are the same
 pub same_test : (a b : Bool) → (a ≡ true → b ≡ true) → (b ≡ true → a ≡ true) → a ≡ b
@@ -119,28 +119,28 @@ pub cond_of : {A : Type 0} (P : A → Type 0) (t : Bool) (a b : A) → P a → P
 cond_of P true a b pa pb = pa
 cond_of P false a b pa pb = pb
 
-pub or-keeps : (a b x y : Bool) → (a ≡ true → x ≡ true) → (b ≡ true → y ≡ true) → (a || b) ≡ true → (x || y) ≡ true
-or-keeps a b true y f g h = refl
-or-keeps true b false y f g h = differs (sym (f refl))
-or-keeps false b false y f g h = g h
+pub or_keeps : (a b x y : Bool) → (a ≡ true → x ≡ true) → (b ≡ true → y ≡ true) → (a || b) ≡ true → (x || y) ≡ true
+or_keeps a b true y f g h = refl
+or_keeps true b false y f g h = differs (sym (f refl))
+or_keeps false b false y f g h = g h
 
 -- "yes, and not .." fails
-pub and-not : (a b : Bool) → (a && not b) ≡ false → a ≡ true → b ≡ true
-and-not true true h e = refl
-and-not true false h e = sym h
-and-not false b h e = differs (sym e)
+pub and_not : (a b : Bool) → (a && not b) ≡ false → a ≡ true → b ≡ true
+and_not true true h e = refl
+and_not true false h e = sym h
+and_not false b h e = differs (sym e)
 
 -- ---- the number of a test
 
-pub one-lt : (t : Bool) → toℕ t < 2
-one-lt true = omega arith
-one-lt false = omega arith
+pub one_lt : (t : Bool) → toℕ t < 2
+one_lt true = omega arith
+one_lt false = omega arith
 
-pub one-eqb : (t : Bool) → eqb (toℕ t) 1 ≡ t
-one-eqb true = refl
-one-eqb false = refl
+pub one_eqb : (t : Bool) → eqb (toℕ t) 1 ≡ t
+one_eqb true = refl
+one_eqb false = refl
 
-pub eqb-one : (n : ℕ) → n < 2 → toℕ (eqb n 1) ≡ n
-eqb-one zero l = refl
-eqb-one (suc zero) l = refl
-eqb-one (suc (suc n)) l = absurd (omega arith)
+pub eqb_one : (n : ℕ) → n < 2 → toℕ (eqb n 1) ≡ n
+eqb_one zero l = refl
+eqb_one (suc zero) l = refl
+eqb_one (suc (suc n)) l = absurd (omega arith)

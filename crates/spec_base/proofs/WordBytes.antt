@@ -10,28 +10,28 @@ use lib.Seq.{take-take}
 use lib.Dec.{eqb}
 use borrow.Author.Tests.{eq-eqb, eqb-true}
 use Rattle.spec_base.specs.Number.{number}
-use Rattle.spec_base.specs.Layout.{slice, modifyAt, overwrite, big}
+use Rattle.spec_base.specs.Layout.{slice, modify_at, overwrite, big}
 use Rattle.spec_base.proofs.Tests.{same_test}
-use Rattle.spec_base.proofs.Numbers.{number-two, number-four}
+use Rattle.spec_base.proofs.Numbers.{number_two, number_four}
 
 -- ---- read
 
-pub big-read : (n p : ℕ) (s : List ℕ) → (big n).read (slice p n s) ≡ number (take n (drop p s))
-big-read n p s = ap number (take-take n n (drop p s) (le_refl n))
+pub big_read : (n p : ℕ) (s : List ℕ) → (big n).read (slice p n s) ≡ number (take n (drop p s))
+big_read n p s = ap number (take-take n n (drop p s) (le_refl n))
 
-pub read-two : (p : ℕ) (s : List ℕ) → p + 2 ≤ length s → (big 2).read (slice p 2 s) ≡ get_or s p 0 * 256 + get_or s (p + 1) 0
-read-two p s l = big-read 2 p s ∙ number-two p s l
+pub read_two : (p : ℕ) (s : List ℕ) → p + 2 ≤ length s → (big 2).read (slice p 2 s) ≡ get_or s p 0 * 256 + get_or s (p + 1) 0
+read_two p s l = big_read 2 p s ∙ number_two p s l
 
-pub read-four : (p : ℕ) (s : List ℕ) → p + 4 ≤ length s
+pub read_four : (p : ℕ) (s : List ℕ) → p + 4 ≤ length s
     → (big 4).read (slice p 4 s) ≡ get_or s p 0 * 16777216 + get_or s (p + 1) 0 * 65536 + get_or s (p + 2) 0 * 256 + get_or s (p + 3) 0
-read-four p s l = big-read 4 p s ∙ number-four p s l
+read_four p s l = big_read 4 p s ∙ number_four p s l
 
 -- ---- compared: two numbers of four bytes are the same exactly where they are so with their low bytes first
 
-pub same-low-first : (a b c d p q r t : ℕ) → a < 256 → b < 256 → c < 256 → d < 256 → p < 256 → q < 256 → r < 256 → t < 256
+pub same_low_first : (a b c d p q r t : ℕ) → a < 256 → b < 256 → c < 256 → d < 256 → p < 256 → q < 256 → r < 256 → t < 256
     → eqb (a + b * 256 + c * 65536 + d * 16777216) (p + q * 256 + r * 65536 + t * 16777216)
     ≡ eqb (a * 16777216 + b * 65536 + c * 256 + d) (p * 16777216 + q * 65536 + r * 256 + t)
-same-low-first a b c d p q r t ha hb hc hd hp hq hr ht =
+same_low_first a b c d p q r t ha hb hc hd hp hq hr ht =
     let low : ℕ = a + b * 256 + c * 65536 + d * 16777216 in
     let low' : ℕ = p + q * 256 + r * 65536 + t * 16777216 in
     let high : ℕ = a * 16777216 + b * 65536 + c * 256 + d in
@@ -55,30 +55,30 @@ same-low-first a b c d p q r t ha hb hc hd hp hq hr ht =
 -- ---- written
 
 -- bytes laid over others, one after the other
-pub cover-first : (b : ℕ) (bs s : List ℕ) (p n : ℕ) → p < length s → modifyAt p (suc n) (overwrite (b ∷ bs)) s ≡ modifyAt (p + 1) n (overwrite bs) (set s p b)
+pub cover_first : (b : ℕ) (bs s : List ℕ) (p n : ℕ) → p < length s → modify_at p (suc n) (overwrite (b ∷ bs)) s ≡ modify_at (p + 1) n (overwrite bs) (set s p b)
 unfolding overwrite
-cover-first b bs [] p n l = absurd (omega arith)
-cover-first b bs (x ∷ s) zero n l = simp (unary_clauses, zero-add, one-add)
-cover-first b bs (x ∷ s) (suc p) n l = simp (unary_clauses, suc-add) (ap (λ (r : List ℕ). x ∷ r) (simp (unary_clauses, suc-add) at (cover-first b bs s p n (omega arith))))
+cover_first b bs [] p n l = absurd (omega arith)
+cover_first b bs (x ∷ s) zero n l = simp (unary_clauses, zero-add, one-add)
+cover_first b bs (x ∷ s) (suc p) n l = simp (unary_clauses, suc-add) (ap (λ (r : List ℕ). x ∷ r) (simp (unary_clauses, suc-add) at (cover_first b bs s p n (omega arith))))
 
-pub cover-none : (s : List ℕ) (p : ℕ) → modifyAt p 0 (overwrite []) s ≡ s
+pub cover_none : (s : List ℕ) (p : ℕ) → modify_at p 0 (overwrite []) s ≡ s
 unfolding overwrite
-cover-none s p = simp unary_clauses (take-append-drop p s)
+cover_none s p = simp unary_clauses (take-append-drop p s)
 
-pub write_two : (p v : ℕ) (s : List ℕ) → p + 2 ≤ length s → v < 65536 → set (set s p (v / 256)) (p + 1) (v % 256) ≡ modifyAt p 2 ((big 2).write v) s
+pub write_two : (p v : ℕ) (s : List ℕ) → p + 2 ≤ length s → v < 65536 → set (set s p (v / 256)) (p + 1) (v % 256) ≡ modify_at p 2 ((big 2).write v) s
 write_two p v s l h =
     let a : ℕ = v / 256 % 256 in
     let b : ℕ = v % 256 in
     let high : v / 256 ≡ a = omega arith in
     sym
-    (cover-first a (b ∷ []) s p 1 (omega arith)
-    ∙ cover-first b [] (set s p a) (p + 1) 0 (simp length-set (omega arith))
-    ∙ cover-none (set (set s p a) (p + 1) b) (p + 1 + 1)
+    (cover_first a (b ∷ []) s p 1 (omega arith)
+    ∙ cover_first b [] (set s p a) (p + 1) 0 (simp length-set (omega arith))
+    ∙ cover_none (set (set s p a) (p + 1) b) (p + 1 + 1)
     ∙ ap (λ (x : ℕ). set (set s p x) (p + 1) b) (sym high))
 
-pub write-four : (p v : ℕ) (s : List ℕ) → v < 2 ^ 32 → p + 4 ≤ length s
-    → set (set (set (set s p (v / 16777216)) (p + 1) (v / 65536 % 256)) (p + 2) (v / 256 % 256)) (p + 3) (v % 256) ≡ modifyAt p 4 ((big 4).write v) s
-write-four p v s h l =
+pub write_four : (p v : ℕ) (s : List ℕ) → v < 2 ^ 32 → p + 4 ≤ length s
+    → set (set (set (set s p (v / 16777216)) (p + 1) (v / 65536 % 256)) (p + 2) (v / 256 % 256)) (p + 3) (v % 256) ≡ modify_at p 4 ((big 4).write v) s
+write_four p v s h l =
     let a : ℕ = v / 256 / 256 / 256 % 256 in
     let b : ℕ = v / 256 / 256 % 256 in
     let c : ℕ = v / 256 % 256 in
@@ -88,11 +88,11 @@ write-four p v s h l =
     let high : v / 16777216 ≡ a = omega arith in
     let next : v / 65536 % 256 ≡ b = omega arith in
     sym
-    (cover-first a (b ∷ c ∷ d ∷ []) s p 3 (omega arith)
-    ∙ cover-first b (c ∷ d ∷ []) (set s p a) (p + 1) 2 (simp length-set (omega arith))
-    ∙ ap (λ (q : ℕ). modifyAt q 2 (overwrite (c ∷ d ∷ [])) (set (set s p a) (p + 1) b)) p₂
-    ∙ cover-first c (d ∷ []) (set (set s p a) (p + 1) b) (p + 2) 1 (simp length-set (omega arith))
-    ∙ ap (λ (q : ℕ). modifyAt q 1 (overwrite (d ∷ [])) (set (set (set s p a) (p + 1) b) (p + 2) c)) p₃
-    ∙ cover-first d [] (set (set (set s p a) (p + 1) b) (p + 2) c) (p + 3) 0 (simp length-set (omega arith))
-    ∙ cover-none (set (set (set (set s p a) (p + 1) b) (p + 2) c) (p + 3) d) (p + 3 + 1)
+    (cover_first a (b ∷ c ∷ d ∷ []) s p 3 (omega arith)
+    ∙ cover_first b (c ∷ d ∷ []) (set s p a) (p + 1) 2 (simp length-set (omega arith))
+    ∙ ap (λ (q : ℕ). modify_at q 2 (overwrite (c ∷ d ∷ [])) (set (set s p a) (p + 1) b)) p₂
+    ∙ cover_first c (d ∷ []) (set (set s p a) (p + 1) b) (p + 2) 1 (simp length-set (omega arith))
+    ∙ ap (λ (q : ℕ). modify_at q 1 (overwrite (d ∷ [])) (set (set (set s p a) (p + 1) b) (p + 2) c)) p₃
+    ∙ cover_first d [] (set (set (set s p a) (p + 1) b) (p + 2) c) (p + 3) 0 (simp length-set (omega arith))
+    ∙ cover_none (set (set (set (set s p a) (p + 1) b) (p + 2) c) (p + 3) d) (p + 3 + 1)
     ∙ (λ i. set (set (set (set s p (sym high i)) (p + 1) (sym next i)) (p + 2) c) (p + 3) d))

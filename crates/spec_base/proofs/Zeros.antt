@@ -7,8 +7,8 @@ use mathlib.Core.Path.{◌≡◌, sym, ap, ◌∙◌}
 use mathlib.Core.List.{List, ◌++◌, append_assoc}
 use lib.ListN.{length, set, take, drop, replicate, length-replicate, get_or-replicate, replicate-append-replicate, length-drop}
 use lib.Seq.{drop-drop, length-take-le, take_all, paste, paste-zero, paste-suc, length-paste}
-use Rattle.spec_base.specs.Layout.{Layout, slice, modifyAt, writeItems}
-use Rattle.spec_base.proofs.Parts.{over-over}
+use Rattle.spec_base.specs.Layout.{Layout, slice, modify_at, write_items}
+use Rattle.spec_base.proofs.Parts.{over_over}
 use Rattle.spec_base.proofs.Copies.{Full}
 
 -- ---- bytes made 0 one by one
@@ -25,37 +25,37 @@ module _ (s₀ : List ℕ) (at count : ℕ) where
     pub clear_kept : (i : ℕ) (s : List ℕ) → i ≤ count → s ≡ clearing i → length s ≡ length s₀
     clear_kept i s l e = ap length e ∙ length-paste s₀ at (replicate count 0) i (omega arith) (rw length-replicate l)
 
-    pub clear-more : (i : ℕ) (s : List ℕ) → i < count → s ≡ clearing i → set s (at + i) 0 ≡ clearing (i + 1)
-    clear-more i s l e =
+    pub clear_more : (i : ℕ) (s : List ℕ) → i < count → s ≡ clearing i → set s (at + i) 0 ≡ clearing (i + 1)
+    clear_more i s l e =
         ap (λ (r : List ℕ). set r (at + i) 0) e
         ∙ ap (set (clearing i) (at + i)) (sym (get_or-replicate count i 0 0 l))
         ∙ paste-suc s₀ at (replicate count 0) i 0 (omega arith) (rw length-replicate l)
         ∙ ap clearing (sym (add-one i))
 
-    pub clear-all : clearing count ≡ modifyAt at count (λ t. replicate count 0) s₀
-    clear-all =
+    pub clear_all : clearing count ≡ modify_at at count (λ t. replicate count 0) s₀
+    clear_all =
         append_assoc (take at s₀) (take count (replicate count 0)) (drop (at + count) s₀)
         ∙ ap (λ (r : List ℕ). take at s₀ ++ (r ++ drop (at + count) s₀)) (take_all count (replicate count 0) (le_of_eq (length-replicate count 0)))
 
 -- ---- a change of a part that reaches only its first bytes
 
-pub over-start : (f : List ℕ → List ℕ) (x : List ℕ) (p m j : ℕ) (s : List ℕ) → j ≤ m → f (slice p m s) ≡ x ++ drop j (slice p m s) → modifyAt p m f s ≡ modifyAt p j (λ t. x) s
-over-start f x p m j s l e =
+pub over_start : (f : List ℕ → List ℕ) (x : List ℕ) (p m j : ℕ) (s : List ℕ) → j ≤ m → f (slice p m s) ≡ x ++ drop j (slice p m s) → modify_at p m f s ≡ modify_at p j (λ t. x) s
+over_start f x p m j s l e =
     ap (λ (r : List ℕ). take p s ++ (r ++ drop (p + m) s)) (e ∙ ap (λ (k : ℕ). x ++ drop k (slice p m s)) (sym (zero-add j)))
-    ∙ over-over (λ t. x) p m 0 j s (omega arith)
-    ∙ ap (λ (k : ℕ). modifyAt k j (λ t. x) s) (add-zero p)
+    ∙ over_over (λ t. x) p m 0 j s (omega arith)
+    ∙ ap (λ (k : ℕ). modify_at k j (λ t. x) s) (add-zero p)
 
 -- ---- items that are written as zeros
 
 module _ {A : Type 0} (L : Layout A) {P : A → Type 0} (F : Full L P) (v : A) (o : P v) (z : L.write v (replicate L.size 0) ≡ replicate L.size 0) where
-  pub items-zero : (n : ℕ) (s : List ℕ) → n * L.size ≤ length s → writeItems L (replicate n v) s ≡ replicate (n * L.size) 0 ++ drop (n * L.size) s
-  items-zero zero s l = ap (λ (k : ℕ). replicate k 0 ++ drop k s) (sym (zero-mul L.size))
-  items-zero (suc n) s l =
+  pub items_zero : (n : ℕ) (s : List ℕ) → n * L.size ≤ length s → write_items L (replicate n v) s ≡ replicate (n * L.size) 0 ++ drop (n * L.size) s
+  items_zero zero s l = ap (λ (k : ℕ). replicate k 0 ++ drop k s) (sym (zero-mul L.size))
+  items_zero (suc n) s l =
       let k : ℕ = L.size in
       let r : n * k + k ≤ length s = omega arith in
       (λ i.
       (F.fills v o (take k s) (replicate k 0) (length-take-le k s (omega arith)) (length-replicate k 0) ∙ z) i
-      ++ items-zero n (drop k s) (simp length-drop (omega arith)) i)
+      ++ items_zero n (drop k s) (simp length-drop (omega arith)) i)
       ∙ sym (append_assoc (replicate k 0) (replicate (n * k) 0) (drop (n * k) (drop k s)))
       ∙ (λ i. replicate-append-replicate k (n * k) 0 i ++ drop-drop (n * k) k s i)
       ∙ ap (λ (j : ℕ). replicate j 0 ++ drop j s) (add_comm k (n * k) ∙ sym (suc-mul n k))

@@ -6,13 +6,13 @@ abbrev pub Bytes : List ℕ → Type 0
 Bytes s = (i : ℕ) → get_or s i 0 < 256
 
 -- the number whose high bytes make a and whose other bytes are listed
-abbrev pub numberFrom : ℕ → List ℕ → ℕ
-numberFrom a [] = a
-numberFrom a (b ∷ bs) = numberFrom (a * 256 + b) bs
+abbrev pub number_from : ℕ → List ℕ → ℕ
+number_from a [] = a
+number_from a (b ∷ bs) = number_from (a * 256 + b) bs
 
 -- the number that the bytes make
 abbrev pub number : List ℕ → ℕ
-number bs = numberFrom 0 bs
+number bs = number_from 0 bs
 
 -- v in n bytes
 abbrev pub digits : ℕ → ℕ → List ℕ
@@ -25,6 +25,6 @@ pub record ByteNumbers : Type 0 where
   pub size : (n v : ℕ) → length (digits n v) ≡ n
   pub bytes : (n v : ℕ) → Bytes (digits n v)
   -- written and read, read and written
-  pub written-and-read : (n v : ℕ) → v < 256 ^ n → number (digits n v) ≡ v
-  pub read-and-written : (bs : List ℕ) → Bytes bs → digits (length bs) (number bs) ≡ bs
+  pub written_and_read : (n v : ℕ) → v < 256 ^ n → number (digits n v) ≡ v
+  pub read_and_written : (bs : List ℕ) → Bytes bs → digits (length bs) (number bs) ≡ bs
   pub below : (bs : List ℕ) → Bytes bs → number bs < 256 ^ length bs

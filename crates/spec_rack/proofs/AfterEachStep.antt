@@ -2,41 +2,41 @@
 use mathlib.Core.Path.{refl}
 use Rattle.spec_base.specs.Folds.{all_below}
 use Rattle.spec_wire.specs.Refusals.{when◌refuse◌else◌}
-use Rattle.spec_arbiter.specs.Boards.{bit, member, insert, remove, subset, boardsOnly, firstFrom, lowest}
-use Rattle.spec_arbiter.specs.Claims.{raiseCheck, raised, lowerCheck, lowered, soundBarring, soundClaims}
-use Rattle.spec_rack.specs.Rack.{meshLimit}
+use Rattle.spec_arbiter.specs.Boards.{bit, member, insert, remove, subset, boards_only, first_from, lowest}
+use Rattle.spec_arbiter.specs.Claims.{raise_check, raised, lower_check, lowered, sound_barring, sound_claims}
+use Rattle.spec_rack.specs.Rack.{mesh_limit}
 use Rattle.spec_rack.specs.Soundness.{sound}
 use Rattle.spec_rack.specs.Rules.{check, after, answer, rules, stored, sent, delivered, forwarded}
-use Rattle.spec_rack.specs.Lists.{runAll}
+use Rattle.spec_rack.specs.Lists.{run_all}
 use Rattle.spec_rack.specs.AfterEachStep.{AfterEachStep}
 
-pub after-each-step : AfterEachStep
-unfolding runAll when◌refuse◌else◌ check after answer rules meshLimit stored sent delivered forwarded raiseCheck raised lowerCheck lowered bit member insert remove firstFrom lowest sound all_below soundClaims boardsOnly soundBarring subset
-after-each-step =
+pub after_each_step : AfterEachStep
+unfolding run_all when◌refuse◌else◌ check after answer rules mesh_limit stored sent delivered forwarded raise_check raised lower_check lowered bit member insert remove first_from lowest sound all_below sound_claims boards_only sound_barring subset
+after_each_step =
     record {
-      is-sound = refl;
-      load-home = refl;
+      is_sound = refl;
+      load_home = refl;
       load = refl;
       store = refl;
       send = refl;
-      send-all = refl;
-      deliver-data = refl;
-      deliver-no-data = refl;
-      deliver-bare = refl;
-      deliver-data-to-valid = refl;
-      deliver-no-data-to-valid = refl;
+      send_all_lem = refl;
+      deliver_data = refl;
+      deliver_no_data = refl;
+      deliver_bare = refl;
+      deliver_data_to_valid = refl;
+      deliver_no_data_to_valid = refl;
       raise = refl;
-      raise-with-all = refl;
+      raise_with_all = refl;
       lower = refl;
-      lower-valid = refl;
+      lower_valid = refl;
       forward = refl;
-      forward-no-data = refl;
-      store-active = refl;
-      send-home = refl;
-      send-bare = refl;
-      raise-not-valid = refl;
-      lower-not-valid = refl;
-      forward-owner = refl;
+      forward_no_data = refl;
+      store_active = refl;
+      send_home = refl;
+      send_bare_lem = refl;
+      raise_not_valid = refl;
+      lower_not_valid = refl;
+      forward_owner = refl;
       refused = refl;
       unchanged = refl;
     }

@@ -15,35 +15,35 @@ use Rattle.spec_wire.specs.declared.Check.TheVariants.{Pass, Refuse}
 use Rattle.spec_wire.specs.declared.Step.{Step}
 use Rattle.spec_wire.specs.declared.Reading.{Reading}
 use Rattle.spec_wire.specs.declared.Reading.TheVariants.{Step as Read, Refused as NoStep}
-use Rattle.spec_wire.specs.Reader.{readRecord}
+use Rattle.spec_wire.specs.Reader.{read_record}
 use Rattle.spec_wire.proofs.RoundTrip.{read_fits}
 use Rattle.spec_rack.specs.declared.Answer.{Answer}
 use Rattle.spec_rack.specs.declared.Reply.TheVariants.{Accepted, Refused}
 use Rattle.spec_rack.specs.Rack.{Rack}
-use Rattle.spec_rack.specs.Rules.{Outcome, refused, accepted, rules, reply, replyOf}
+use Rattle.spec_rack.specs.Rules.{Outcome, refused, accepted, rules, reply, reply_of}
 use Rattle.spec_rack.proofs.StepPreservation.{Kept, Keeps, StepFits, step_keeps}
-use Rattle.spec_rack.specs.RecordLayout.{recordLength, get, put}
-use Rattle.spec_rack.specs.Soundness.{soundBytes}
-use Rattle.spec_rack.proofs.GetPut.{boards-is, tokens-is, blocks_is}
-use Rattle.spec_rack.proofs.SoundRecord.{Live, live_of, sound-of, put_is, put_rest, put-live}
-use Rattle.spec_rack.proofs.RecordFormat.{live-format}
-use Rattle.spec_rack.specs.Opening.{openCheck, openReply}
-use Rattle.spec_rack.proofs.OpeningLaws.{passes, open-refused, open-get, open-length, open-behind, open-sound}
-use Rattle.spec_rack.specs.Entries.{bufferAfterOutcome, outcome, stepReply, stepAfter}
-use Rattle.spec_rack.specs.Lists.{runAll, repliesOf, after, replies, framesFrom}
-use Rattle.spec_rack.proofs.ByteLists.{step_fits, outcome-read, outcome-unsound, runs}
+use Rattle.spec_rack.specs.RecordLayout.{record_length, get, put}
+use Rattle.spec_rack.specs.Soundness.{sound_bytes}
+use Rattle.spec_rack.proofs.GetPut.{boards_is, tokens_is, blocks_is}
+use Rattle.spec_rack.proofs.SoundRecord.{Live, live_of, sound_of, put_is, put_rest, put_live}
+use Rattle.spec_rack.proofs.RecordFormat.{live_format}
+use Rattle.spec_rack.specs.Opening.{open_check, open_reply}
+use Rattle.spec_rack.proofs.OpeningLaws.{passes, open_refused, open_get, open_length, open_behind, open_sound}
+use Rattle.spec_rack.specs.Entries.{buffer_after_outcome, outcome, step_reply, step_after}
+use Rattle.spec_rack.specs.Lists.{run_all, replies_of, after, replies, frames_from}
+use Rattle.spec_rack.proofs.ByteLists.{step_fits, outcome_read, outcome_unsound, runs}
 use Rattle.spec_rack.specs.declared.Lettered.TheVariants as Lettered
-use Rattle.spec_rack.specs.Letter.{letter, letterReply}
-use Rattle.spec_rack.specs.Results.{packedReply}
-use Rattle.spec_rack.specs.Effects.{EveryRun, Steady, StepLeaves, EveryStep, EveryList, unsoundReply, EveryUnsound, EveryOpening}
+use Rattle.spec_rack.specs.Letter.{letter, letter_reply}
+use Rattle.spec_rack.specs.Results.{packed_reply}
+use Rattle.spec_rack.specs.Effects.{EveryRun, Steady, StepLeaves, EveryStep, EveryList, unsound_reply, EveryUnsound, EveryOpening}
 
-not-both : {A : Type 0} {a : Answer} {n : Refusal} → Accepted a ≡ Refused n → A
-not-both e = let z : ◌≡◌ {A = ℕ} 0 1 = cc in absurd (omega arith)
+not_both : {A : Type 0} {a : Answer} {n : Refusal} → Accepted a ≡ Refused n → A
+not_both e = let z : ◌≡◌ {A = ℕ} 0 1 = cc in absurd (omega arith)
 
 -- ---- a buffer that stays, and one change after another
 
-steady-same : (s : List ℕ) → Steady s s
-steady-same s = record { rest = record { size = refl; behind = refl }; boards = refl; blocks = refl; tokens = refl; format = refl; sound = refl }
+steady_same : (s : List ℕ) → Steady s s
+steady_same s = record { rest = record { size = refl; behind = refl }; boards = refl; blocks = refl; tokens = refl; format = refl; sound = refl }
 
 steady_then : (s s' s'' : List ℕ) → Steady s s' → Steady s' s'' → Steady s s''
 steady_then s s' s'' p q =
@@ -51,7 +51,7 @@ steady_then s s' s'' p q =
       rest =
           record {
             size = q.rest.size ∙ p.rest.size;
-            behind = subst (λ (b : ℕ). drop (recordLength b) s'' ≡ drop (recordLength b) s') p.blocks q.rest.behind ∙ p.rest.behind;
+            behind = subst (λ (b : ℕ). drop (record_length b) s'' ≡ drop (record_length b) s') p.blocks q.rest.behind ∙ p.rest.behind;
           };
       boards = q.boards ∙ p.boards;
       blocks = q.blocks ∙ p.blocks;
@@ -63,137 +63,137 @@ steady_then s s' s'' p q =
 -- ---- a step
 
 module _ (s bytes : List ℕ) where
-  unchanged : (n : Refusal) → stepReply s bytes ≡ Refused n → stepAfter s bytes ≡ s → StepLeaves s bytes
+  unchanged : (n : Refusal) → step_reply s bytes ≡ Refused n → step_after s bytes ≡ s → StepLeaves s bytes
   unchanged n told e =
       record {
-        steady = subst (Steady s) (sym e) (steady-same s);
-        if-accepted = λ a h. not-both (sym h ∙ told);
-        if-refused = λ _ _. e;
+        steady = subst (Steady s) (sym e) (steady_same s);
+        if_accepted = λ a h. not_both (sym h ∙ told);
+        if_refused = λ _ _. e;
       }
 
   -- an accepted step writes the rack that it leaves
-  module _ (live : Live s) (t : Step) (read : readRecord bytes ≡ Read t) (a : Answer) (r : Rack) (ruled : rules (get s) t ≡ accepted a r) (k : Kept (get s) t a r) (fit : StepFits t) where
+  module _ (live : Live s) (t : Step) (read : read_record bytes ≡ Read t) (a : Answer) (r : Rack) (ruled : rules (get s) t ≡ accepted a r) (k : Kept (get s) t a r) (fit : StepFits t) where
     is : get (put r s) ≡ r
     is = put_is s live r k.sound (k.fits fit live.fits) k.count
 
-    live-after : Live (put r s)
-    live-after = put-live s live r k.sound (k.fits fit live.fits) k.count
+    live_after : Live (put r s)
+    live_after = put_live s live r k.sound (k.fits fit live.fits) k.count
 
-    put-steady : Steady s (put r s)
-    put-steady =
+    put_steady : Steady s (put r s)
+    put_steady =
         record {
           rest = put_rest s live r k.sound (k.fits fit live.fits) k.count;
-          boards = sym (boards-is (put r s)) ∙ ap (λ (q : Rack). q.boards) is ∙ k.boards ∙ boards-is s;
+          boards = sym (boards_is (put r s)) ∙ ap (λ (q : Rack). q.boards) is ∙ k.boards ∙ boards_is s;
           blocks = sym (blocks_is (put r s)) ∙ ap (λ (q : Rack). length q.blocks) is ∙ k.count ∙ blocks_is s;
-          tokens = sym (tokens-is (put r s)) ∙ ap (λ (q : Rack). q.tokens) is ∙ k.tokens ∙ tokens-is s;
-          format = live-format (put r s) live-after ∙ sym (live-format s live);
-          sound = sound-of (put r s) live-after ∙ sym (sound-of s live);
+          tokens = sym (tokens_is (put r s)) ∙ ap (λ (q : Rack). q.tokens) is ∙ k.tokens ∙ tokens_is s;
+          format = live_format (put r s) live_after ∙ sym (live_format s live);
+          sound = sound_of (put r s) live_after ∙ sym (sound_of s live);
         }
 
-    written : stepReply s bytes ≡ Accepted a → stepAfter s bytes ≡ put r s → StepLeaves s bytes
+    written : step_reply s bytes ≡ Accepted a → step_after s bytes ≡ put r s → StepLeaves s bytes
     written told e =
         record {
-          steady = subst (Steady s) (sym e) put-steady;
-          if-accepted = λ a' h.
+          steady = subst (Steady s) (sym e) put_steady;
+          if_accepted = λ a' h.
               let same : a ≡ a' = cc in
-              record { step = t; read = read; sound = sound-of s live; ruled = ruled ∙ (λ i. accepted (same i) (sym (ap get e ∙ is) i)) };
-          if-refused = λ n h. not-both (sym told ∙ h);
+              record { step = t; read = read; sound = sound_of s live; ruled = ruled ∙ (λ i. accepted (same i) (sym (ap get e ∙ is) i)) };
+          if_refused = λ n h. not_both (sym told ∙ h);
         }
 
-  by-outcome : (live : Live s) (t : Step) → readRecord bytes ≡ Read t → StepFits t → (o : Outcome) → rules (get s) t ≡ o → Keeps (Kept (get s) t) o
-      → stepReply s bytes ≡ reply o → stepAfter s bytes ≡ bufferAfterOutcome s o → StepLeaves s bytes
-  by-outcome live t read fit (refused n) ruled k told e = unchanged n told e
-  by-outcome live t read fit (accepted a r) ruled k told e = written live t read a r ruled k fit told e
+  by_outcome : (live : Live s) (t : Step) → read_record bytes ≡ Read t → StepFits t → (o : Outcome) → rules (get s) t ≡ o → Keeps (Kept (get s) t) o
+      → step_reply s bytes ≡ reply o → step_after s bytes ≡ buffer_after_outcome s o → StepLeaves s bytes
+  by_outcome live t read fit (refused n) ruled k told e = unchanged n told e
+  by_outcome live t read fit (accepted a r) ruled k told e = written live t read a r ruled k fit told e
 
-  by-reading : Bytes s → (k : Reading) → readRecord bytes ≡ k → StepLeaves s bytes
-  unfolding stepReply stepAfter
-  by-reading h (NoStep n) e = unchanged n (ap (λ (k : Reading). reply (outcome k s)) e) (ap (λ (k : Reading). bufferAfterOutcome s (outcome k s)) e)
-  by-reading h (Read t) e =
+  by_reading : Bytes s → (k : Reading) → read_record bytes ≡ k → StepLeaves s bytes
+  unfolding step_reply step_after
+  by_reading h (NoStep n) e = unchanged n (ap (λ (k : Reading). reply (outcome k s)) e) (ap (λ (k : Reading). buffer_after_outcome s (outcome k s)) e)
+  by_reading h (Read t) e =
       ⊎_elim
-      (λ (ok : soundBytes s ≡ true). let live = live_of s h ok in
-      by-outcome live t e (step_fits t (read_fits bytes t e)) (rules (get s) t) refl (step_keeps (get s) live.sound t)
-      (ap (λ (k : Reading). reply (outcome k s)) e ∙ ap reply (outcome-read s live t))
-      (ap (λ (k : Reading). bufferAfterOutcome s (outcome k s)) e ∙ ap (bufferAfterOutcome s) (outcome-read s live t)))
-      (λ (bad : soundBytes s ≡ false). unchanged Unsound
-      (ap (λ (k : Reading). reply (outcome k s)) e ∙ ap reply (outcome-unsound s bad t))
-      (ap (λ (k : Reading). bufferAfterOutcome s (outcome k s)) e ∙ ap (bufferAfterOutcome s) (outcome-unsound s bad t)))
-      (either (soundBytes s))
+      (λ (ok : sound_bytes s ≡ true). let live = live_of s h ok in
+      by_outcome live t e (step_fits t (read_fits bytes t e)) (rules (get s) t) refl (step_keeps (get s) live.sound t)
+      (ap (λ (k : Reading). reply (outcome k s)) e ∙ ap reply (outcome_read s live t))
+      (ap (λ (k : Reading). buffer_after_outcome s (outcome k s)) e ∙ ap (buffer_after_outcome s) (outcome_read s live t)))
+      (λ (bad : sound_bytes s ≡ false). unchanged Unsound
+      (ap (λ (k : Reading). reply (outcome k s)) e ∙ ap reply (outcome_unsound s bad t))
+      (ap (λ (k : Reading). buffer_after_outcome s (outcome k s)) e ∙ ap (buffer_after_outcome s) (outcome_unsound s bad t)))
+      (either (sound_bytes s))
 
   -- on a buffer without a sound record
-  by-unsound : soundBytes s ≡ false → (k : Reading) → (reply (outcome k s) ≡ unsoundReply k) × (bufferAfterOutcome s (outcome k s) ≡ s)
-  by-unsound bad (NoStep n) = (refl, refl)
-  by-unsound bad (Read t) = (ap reply (outcome-unsound s bad t), ap (bufferAfterOutcome s) (outcome-unsound s bad t))
+  by_unsound : sound_bytes s ≡ false → (k : Reading) → (reply (outcome k s) ≡ unsound_reply k) × (buffer_after_outcome s (outcome k s) ≡ s)
+  by_unsound bad (NoStep n) = (refl, refl)
+  by_unsound bad (Read t) = (ap reply (outcome_unsound s bad t), ap (buffer_after_outcome s) (outcome_unsound s bad t))
 
-  step-unsound : soundBytes s ≡ false → (stepReply s bytes ≡ unsoundReply (readRecord bytes)) × (stepAfter s bytes ≡ s)
-  unfolding stepReply stepAfter
-  step-unsound bad = by-unsound bad (readRecord bytes)
+  step_unsound : sound_bytes s ≡ false → (step_reply s bytes ≡ unsound_reply (read_record bytes)) × (step_after s bytes ≡ s)
+  unfolding step_reply step_after
+  step_unsound bad = by_unsound bad (read_record bytes)
 
-pub every-step : EveryStep
-every-step s bytes h = by-reading s bytes h (readRecord bytes) refl
+pub every_step : EveryStep
+every_step s bytes h = by_reading s bytes h (read_record bytes) refl
 
 -- ---- a list
 
-list-steady : (steps : List (List ℕ)) (s : List ℕ) → Live s → Steady s (after s steps)
-unfolding runAll
-list-steady [] s live = steady-same s
-list-steady (b ∷ bs) s live =
-    steady_then s (stepAfter s b) (after (stepAfter s b) bs) (every-step s b live.wellFormed.bytes).steady (list-steady bs (stepAfter s b) (runs (b ∷ []) s live).live)
+list_steady : (steps : List (List ℕ)) (s : List ℕ) → Live s → Steady s (after s steps)
+unfolding run_all
+list_steady [] s live = steady_same s
+list_steady (b ∷ bs) s live =
+    steady_then s (step_after s b) (after (step_after s b) bs) (every_step s b live.well_formed.bytes).steady (list_steady bs (step_after s b) (runs (b ∷ []) s live).live)
 
-list-unsound : (steps : List (List ℕ)) (s : List ℕ) → soundBytes s ≡ false → (replies s steps ≡ map (λ bytes. unsoundReply (readRecord bytes)) steps) × (after s steps ≡ s)
-unfolding runAll repliesOf
-list-unsound [] s bad = (refl, refl)
-list-unsound (b ∷ bs) s bad =
-    let one = step-unsound s b bad in
-    let rest = list-unsound bs s bad in
+list_unsound : (steps : List (List ℕ)) (s : List ℕ) → sound_bytes s ≡ false → (replies s steps ≡ map (λ bytes. unsound_reply (read_record bytes)) steps) × (after s steps ≡ s)
+unfolding run_all replies_of
+list_unsound [] s bad = (refl, refl)
+list_unsound (b ∷ bs) s bad =
+    let one = step_unsound s b bad in
+    let rest = list_unsound bs s bad in
     ((λ i. one.0 i ∷ (ap (λ (q : List ℕ). replies q bs) one.1 ∙ rest.0) i), ap (λ (q : List ℕ). after q bs) one.1 ∙ rest.1)
 
-pub every-unsound : EveryUnsound
-unfolding letterReply
-every-unsound s bad =
+pub every_unsound : EveryUnsound
+unfolding letter_reply
+every_unsound s bad =
     record {
-      step = λ bytes. step-unsound s bytes bad;
-      list = λ steps. list-unsound steps s bad;
+      step = λ bytes. step_unsound s bytes bad;
+      list = λ steps. list_unsound steps s bad;
       letter = λ c b. ap (λ (u : Bool). cond u (letter (get s) c b) (Lettered.Refused Unsound)) bad;
     }
 
-pub every-list : EveryList
-every-list s steps h =
+pub every_list : EveryList
+every_list s steps h =
     record {
       steady =
-          ⊎_elim (λ (ok : soundBytes s ≡ true). list-steady steps s (live_of s h ok))
-          (λ (bad : soundBytes s ≡ false). subst (Steady s) (sym (list-unsound steps s bad).1) (steady-same s)) (either (soundBytes s));
-      if-sound = λ ok. (runs steps s (live_of s h ok)).rack;
+          ⊎_elim (λ (ok : sound_bytes s ≡ true). list_steady steps s (live_of s h ok))
+          (λ (bad : sound_bytes s ≡ false). subst (Steady s) (sym (list_unsound steps s bad).1) (steady_same s)) (either (sound_bytes s));
+      if_sound = λ ok. (runs steps s (live_of s h ok)).rack;
     }
 
-pub every-run : EveryRun
-every-run rec list at out made rec' at' out' h ran =
-    let steps : List (List ℕ) = framesFrom list at out in
-    let l = every-list rec steps h in
+pub every_run : EveryRun
+every_run rec list at out made rec' at' out' h ran =
+    let steps : List (List ℕ) = frames_from list at out in
+    let l = every_list rec steps h in
     record {
       steady = subst (Steady rec) (sym ran.buffer) l.steady;
-      if-sound = λ ok. ap get ran.buffer ∙ l.if-sound ok;
-      if-unsound = λ bad. ran.buffer ∙ (list-unsound steps rec bad).1;
-      unsound-replies = λ bad.
+      if_sound = λ ok. ap get ran.buffer ∙ l.if_sound ok;
+      if_unsound = λ bad. ran.buffer ∙ (list_unsound steps rec bad).1;
+      unsound_replies = λ bad.
           ran.replies
-          ∙ ap (λ (l : List ℕ). l ++ drop (length steps) out) (ap (map packedReply) (list-unsound steps rec bad).0 ∙ map-map packedReply (λ bytes. unsoundReply (readRecord bytes)) steps);
+          ∙ ap (λ (l : List ℕ). l ++ drop (length steps) out) (ap (map packed_reply) (list_unsound steps rec bad).0 ∙ map-map packed_reply (λ bytes. unsound_reply (read_record bytes)) steps);
     }
 
 -- ---- an opening
 
-refuses : (k : Check) (r : Refusal) → replyOf k ≡ Refused r → k ≡ Refuse r
-refuses Pass r e = not-both e
+refuses : (k : Check) (r : Refusal) → reply_of k ≡ Refused r → k ≡ Refuse r
+refuses Pass r e = not_both e
 refuses (Refuse n) r e = cc
 
-pub every-opening : EveryOpening
-unfolding openReply
-every-opening n b t s h =
+pub every_opening : EveryOpening
+unfolding open_reply
+every_opening n b t s h =
     record {
-      if-accepted = λ e.
-          let pass = passes (openCheck n b t (length s)) e in
+      if_accepted = λ e.
+          let pass = passes (open_check n b t (length s)) e in
           record {
-            rest = record { size = open-length n b t s pass; behind = open-behind n b t s pass };
-            rack = open-get n b t s pass;
-            sound = open-sound n b t s pass h;
+            rest = record { size = open_length n b t s pass; behind = open_behind n b t s pass };
+            rack = open_get n b t s pass;
+            sound = open_sound n b t s pass h;
           };
-      if-refused = λ r e. (open-refused n b t s r (refuses (openCheck n b t (length s)) r e)).1;
+      if_refused = λ r e. (open_refused n b t s r (refuses (open_check n b t (length s)) r e)).1;
     }

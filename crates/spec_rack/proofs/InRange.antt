@@ -9,24 +9,24 @@ use Rattle.spec_base.proofs.Tests.{or_l, or_r}
 use Rattle.spec_wire.specs.declared.Check.{Check}
 use Rattle.spec_wire.specs.declared.Step.{Step}
 use Rattle.spec_wire.specs.declared.Step.TheVariants.{Load, Store, Send, Deliver, Raise, Lower, Forward}
-use Rattle.spec_arbiter.specs.Claims.{raiseCheck, lowerCheck}
-use Rattle.spec_arbiter.proofs.Claims.{active-known}
-use Rattle.spec_rack.specs.Rack.{Rack, block_at, claimsAt, cell_at, messageAt}
-use Rattle.spec_rack.specs.Rules.{check, offRack, pastWords}
+use Rattle.spec_arbiter.specs.Claims.{raise_check, lower_check}
+use Rattle.spec_arbiter.proofs.Claims.{active_known}
+use Rattle.spec_rack.specs.Rack.{Rack, block_at, claims_at, cell_at, message_at}
+use Rattle.spec_rack.specs.Rules.{check, off_rack, past_words}
 use Rattle.spec_rack.specs.InRange.{OnRack, InRange, AcceptedInRange}
-use Rattle.spec_rack.proofs.SoundnessFacts.{Sound, sound-facts}
-use Rattle.spec_rack.proofs.BlockInvariant.{message-sound, cell_in, cell-sound}
-use Rattle.spec_rack.proofs.StepPreservation.{IfPassed, guard, given, inN, in_b, in-mesh}
+use Rattle.spec_rack.proofs.SoundnessFacts.{Sound, sound_facts}
+use Rattle.spec_rack.proofs.BlockInvariant.{message_sound, cell_in, cell_sound}
+use Rattle.spec_rack.proofs.StepPreservation.{IfPassed, guard, given, in_n, in_b, in_mesh_lem}
 
 module _ (r : Rack) (s : Sound r) where
-  on-rack : (c b : ℕ) → c ≤ r.boards → b < length r.blocks → OnRack r c b
-  on-rack c b n k = record { block = k; cell = cell_in r s b c k n; sets = omega (arith, (s.blocks b k).shape.claims.width) }
+  on_rack : (c b : ℕ) → c ≤ r.boards → b < length r.blocks → OnRack r c b
+  on_rack c b n k = record { block = k; cell = cell_in r s b c k n; sets = omega (arith, (s.blocks b k).shape.claims.width) }
 
-  there : (c b : ℕ) → offRack r c b ≡ false → OnRack r c b
-  there c b on = on-rack c b (inN r s c b on) (in_b r s c b on)
+  there : (c b : ℕ) → off_rack r c b ≡ false → OnRack r c b
+  there c b on = on_rack c b (in_n r s c b on) (in_b r s c b on)
 
-  word-there : (c b w : ℕ) → offRack r c b ≡ false → pastWords w ≡ false → w < length (cell_at r b c).words
-  word-there c b w on short = omega (arith, ltb-false 7 w short, (cell-sound r s b c (in_b r s c b on) (inN r s c b on)).eight)
+  word_there : (c b w : ℕ) → off_rack r c b ≡ false → past_words w ≡ false → w < length (cell_at r b c).words
+  word_there c b w on short = omega (arith, ltb-false 7 w short, (cell_sound r s b c (in_b r s c b on) (in_n r s c b on)).eight)
 
   reached : (t : Step) → IfPassed (check r t) (InRange r t)
   unfolding check
@@ -35,13 +35,13 @@ module _ (r : Rack) (s : Sound r) where
       past _ _ _ λ known.
       past _ _ _ λ token.
       past _ _ _ λ valid.
-      (there c b (or_l _ _ known), word-there c b w (or_l _ _ known) (or_r (offRack r c b) _ known))
+      (there c b (or_l _ _ known), word_there c b w (or_l _ _ known) (or_r (off_rack r c b) _ known))
   reached (Store c b w v) =
       let past = guard (InRange r (Store c b w v)) in
       past _ _ _ λ known.
       past _ _ _ λ board.
       past _ _ _ λ all.
-      (there c b (or_l _ _ known), word-there c b w (or_l _ _ known) (or_r (offRack r c b) _ known))
+      (there c b (or_l _ _ known), word_there c b w (or_l _ _ known) (or_r (off_rack r c b) _ known))
   reached (Send c b t p o d) =
       let past = guard (InRange r (Send c b t p o d)) in
       past _ _ _ λ known.
@@ -53,23 +53,23 @@ module _ (r : Rack) (s : Sound r) where
       past _ _ _ λ stale.
       past _ _ _ λ full.
       let on = or_l _ _ known in
-      (there c b on, on-rack t b (ltb-false _ _ (or_r (offRack r c b) _ known)) (in_b r s c b on))
+      (there c b on, on_rack t b (ltb-false _ _ (or_r (off_rack r c b) _ known)) (in_b r s c b on))
   reached (Deliver i) =
       let past = guard (InRange r (Deliver i)) in
       past _ _ _ λ within.
-      let m = message-sound r s i (in-mesh r s i within) in
-      (in-mesh r s i within, on-rack _ _ m.target m.block)
+      let m = message_sound r s i (in_mesh_lem r s i within) in
+      (in_mesh_lem r s i within, on_rack _ _ m.target m.block)
   reached (Raise c b) =
       let past = guard (InRange r (Raise c b)) in
       past _ _ _ λ on.
       past _ _ _ λ board.
-      given (InRange r (Raise c b)) (raiseCheck (claimsAt r b) c) λ free.
+      given (InRange r (Raise c b)) (raise_check (claims_at r b) c) λ free.
       there c b on
   reached (Lower c b) =
       let past = guard (InRange r (Lower c b)) in
       past _ _ _ λ on.
       past _ _ _ λ board.
-      given (InRange r (Lower c b)) (lowerCheck (claimsAt r b) c) λ waits.
+      given (InRange r (Lower c b)) (lower_check (claims_at r b) c) λ waits.
       there c b on
   reached (Forward c b) =
       let past = guard (InRange r (Forward c b)) in
@@ -78,7 +78,7 @@ module _ (r : Rack) (s : Sound r) where
       past _ _ _ λ apart.
       past _ _ _ λ token.
       past _ _ _ λ full.
-      (there c b on, on-rack _ b (active-known (s.blocks b (in_b r s c b on)).shape.claims claimed).1 (in_b r s c b on))
+      (there c b on, on_rack _ b (active_known (s.blocks b (in_b r s c b on)).shape.claims claimed).1 (in_b r s c b on))
 
-pub accepted-in-range : AcceptedInRange
-accepted-in-range r t ok e = subst (λ (k : Check). IfPassed k (InRange r t)) e (reached r (sound-facts r ok) t)
+pub accepted_in_range : AcceptedInRange
+accepted_in_range r t ok e = subst (λ (k : Check). IfPassed k (InRange r t)) e (reached r (sound_facts r ok) t)

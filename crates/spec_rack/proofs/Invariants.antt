@@ -8,7 +8,7 @@ use lib.ListN.{length, get_or}
 use lib.Dec.{eqb, ltb}
 use borrow.Author.Tests.{ltb-false, eqb-false, leb-true}
 use Rattle.spec_base.proofs.Tests.{differs, and_l, and_r, or_l}
-use Rattle.spec_base.proofs.Folds.{sum-at, sum-two}
+use Rattle.spec_base.proofs.Folds.{sum_at, sum_two}
 use Rattle.spec_wire.specs.declared.Refusal.TheVariants.{OffRack, Home, NoToken, NoData, Short}
 use Rattle.spec_wire.specs.declared.Check.{Check}
 use Rattle.spec_wire.specs.declared.Check.TheVariants.{Pass, Refuse}
@@ -17,32 +17,32 @@ use Rattle.spec_wire.specs.declared.Step.{Step}
 use Rattle.spec_wire.specs.declared.Step.TheVariants.{Load, Store}
 use Rattle.spec_wire.specs.declared.Reading.{Reading}
 use Rattle.spec_wire.specs.declared.Reading.TheVariants.{Step as Read}
-use Rattle.spec_wire.specs.Reader.{readRecord}
+use Rattle.spec_wire.specs.Reader.{read_record}
 use Rattle.spec_rack.specs.declared.Answer.{Answer}
 use Rattle.spec_rack.specs.declared.Reply.{Reply}
 use Rattle.spec_rack.specs.declared.Reply.TheVariants.{Accepted}
-use Rattle.spec_rack.specs.Rack.{Block, Rack, noCell, no_block, noMessage, isHome, fresh, block_at, cell_at, held, carried, inFlight}
+use Rattle.spec_rack.specs.Rack.{Block, Rack, no_cell, no_block, no_message, is_home, fresh, block_at, cell_at, held, carried, in_flight}
 use Rattle.spec_rack.specs.Soundness.{sizes}
-use Rattle.spec_rack.specs.Rules.{settled, check, rules, offRack, pastWords, reply}
-use Rattle.spec_rack.specs.FlatMemory.{Memory, blank, memoryAfter}
+use Rattle.spec_rack.specs.Rules.{settled, check, rules, off_rack, past_words, reply}
+use Rattle.spec_rack.specs.FlatMemory.{Memory, blank, memory_after}
 use Rattle.spec_rack.specs.RecordLayout.{get}
-use Rattle.spec_rack.specs.Entries.{outcome, stepReply}
-use Rattle.spec_rack.specs.Lists.{ruledReply, run, rackAccesses, steps_of}
+use Rattle.spec_rack.specs.Entries.{outcome, step_reply}
+use Rattle.spec_rack.specs.Lists.{ruled_reply, run, rack_accesses, steps_of}
 use Rattle.spec_rack.specs.Invariants.{SingleWriter, Current, SingleWriterMultipleReaders, DataValue, TokenConservation, SingleWriterMultipleReadersBytes, DataValueBytes, TokenConservationBytes}
 use Rattle.spec_rack.proofs.SoundnessFacts.{Sound}
-use Rattle.spec_rack.proofs.BlockInvariant.{all-anywhere, CellHas, MessageHas, Coherent, cell_in}
-use Rattle.spec_rack.proofs.StepPreservation.{inN, in_b}
+use Rattle.spec_rack.proofs.BlockInvariant.{all_anywhere, CellHas, MessageHas, Coherent, cell_in}
+use Rattle.spec_rack.proofs.StepPreservation.{in_n, in_b}
 use Rattle.spec_rack.proofs.FreshRack.{opened}
-use Rattle.spec_rack.proofs.ListCoherence.{run-fresh, rack-coherence}
+use Rattle.spec_rack.proofs.ListCoherence.{run_fresh, rack_coherence}
 use Rattle.spec_rack.proofs.SoundRecord.{Live}
-use Rattle.spec_rack.proofs.ByteLists.{outcome-read}
-use Rattle.spec_rack.proofs.Coherence.{from-opening, coherence}
+use Rattle.spec_rack.proofs.ByteLists.{outcome_read}
+use Rattle.spec_rack.proofs.Coherence.{from_opening, coherence}
 
 -- ---- what an accepted load and an accepted store are past
 
-accepted-past : (k : Check) (x a : Answer) (r : Rack) → reply (settled k x r) ≡ Accepted a → k ≡ Pass
-accepted-past Pass x a r e = refl
-accepted-past (Refuse n) x a r e = cc
+accepted_past : (k : Check) (x a : Answer) (r : Rack) → reply (settled k x r) ≡ Accepted a → k ≡ Pass
+accepted_past Pass x a r e = refl
+accepted_past (Refuse n) x a r e = cc
 
 load_past : (off none stale : Bool) → (when off refuse OffRack else when none refuse NoToken else when stale refuse NoData else Pass) ≡ Pass
     → (off ≡ false) × (none ≡ false)
@@ -51,35 +51,35 @@ load_past true none stale e = (cc, cc)
 load_past false true stale e = (cc, cc)
 load_past false false stale e = (refl, refl)
 
-store-past : (off home short : Bool) → (when off refuse OffRack else when home refuse Home else when short refuse Short else Pass) ≡ Pass
+store_past : (off home short : Bool) → (when off refuse OffRack else when home refuse Home else when short refuse Short else Pass) ≡ Pass
     → (off ≡ false) × (short ≡ false)
 unfolding when◌refuse◌else◌
-store-past true home short e = (cc, cc)
-store-past false true short e = (cc, cc)
-store-past false false true e = (cc, cc)
-store-past false false false e = (refl, refl)
+store_past true home short e = (cc, cc)
+store_past false true short e = (cc, cc)
+store_past false false true e = (cc, cc)
+store_past false false false e = (refl, refl)
 
 -- the component is one of the rack, the block too, and it holds at least so many tokens of it
 record Holder (r : Rack) (c b least : ℕ) : Type 0 where
-  on : offRack r c b ≡ false
+  on : off_rack r c b ≡ false
   tokens : least ≤ held (cell_at r b c)
 
 module _ (r : Rack) (c b w : ℕ) where
-  reader : (a : Answer) → ruledReply r (Load c b w) ≡ Accepted a → Holder r c b 1
+  reader : (a : Answer) → ruled_reply r (Load c b w) ≡ Accepted a → Holder r c b 1
   unfolding rules check
   reader a e =
-      let p = load_past (offRack r c b || pastWords w) (eqb (held (cell_at r b c)) 0) (not (cell_at r b c).valid) (accepted-past _ _ a _ e) in
-      record { on = or_l (offRack r c b) (pastWords w) p.0; tokens = some (held (cell_at r b c)) (eqb-false _ _ p.1) }
+      let p = load_past (off_rack r c b || past_words w) (eqb (held (cell_at r b c)) 0) (not (cell_at r b c).valid) (accepted_past _ _ a _ e) in
+      record { on = or_l (off_rack r c b) (past_words w) p.0; tokens = some (held (cell_at r b c)) (eqb-false _ _ p.1) }
     where
       some : (k : ℕ) → (k ≡ 0 → ⊥) → 1 ≤ k
       some zero ne = absurd (ne refl)
       some (suc k) ne = omega arith
 
-  writer : (v : ℕ) (a : Answer) → ruledReply r (Store c b w v) ≡ Accepted a → Holder r c b r.tokens
+  writer : (v : ℕ) (a : Answer) → ruled_reply r (Store c b w v) ≡ Accepted a → Holder r c b r.tokens
   unfolding rules check
   writer v a e =
-      let p = store-past (offRack r c b || pastWords w) (isHome c) (ltb (held (cell_at r b c)) r.tokens) (accepted-past _ _ a _ e) in
-      record { on = or_l (offRack r c b) (pastWords w) p.0; tokens = ltb-false _ _ p.1 }
+      let p = store_past (off_rack r c b || past_words w) (is_home c) (ltb (held (cell_at r b c)) r.tokens) (accepted_past _ _ a _ e) in
+      record { on = or_l (off_rack r c b) (past_words w) p.0; tokens = ltb-false _ _ p.1 }
 
 -- ---- who holds all has the block to itself
 
@@ -90,45 +90,45 @@ module _ (r : Rack) (s : Sound r) (c b : ℕ) (all : Holder r c b r.tokens) wher
       omega (
         arith,
         (s.blocks b k).tokens,
-        sum-two held (block_at r b).cells j c noCell (cell_in r s b j k (inN r s j b h.on)) (cell_in r s b c k (inN r s c b all.on)) ne,
+        sum_two held (block_at r b).cells j c no_cell (cell_in r s b j k (in_n r s j b h.on)) (cell_in r s b c k (in_n r s c b all.on)) ne,
         h.tokens,
         all.tokens,
       )
 
-  quiet : inFlight carried b r.mesh ≡ 0
+  quiet : in_flight carried b r.mesh ≡ 0
   quiet =
       let k = in_b r s c b all.on in
       omega (
         arith,
         (s.blocks b k).tokens,
-        sum-at held (block_at r b).cells c noCell (cell_in r s b c k (inN r s c b all.on)),
+        sum_at held (block_at r b).cells c no_cell (cell_in r s b c k (in_n r s c b all.on)),
         all.tokens,
       )
 
 -- a rack has a token
-some-tokens : (r : Rack) → Sound r → 1 ≤ r.tokens
-some-tokens r s = omega (arith, leb-true 1 r.boards (search (and_l, and_r, s.size) depth 7), leb-true r.boards r.tokens (search (and_l, and_r, s.size) depth 7))
+some_tokens : (r : Rack) → Sound r → 1 ≤ r.tokens
+some_tokens r s = omega (arith, leb-true 1 r.boards (search (and_l, and_r, s.size) depth 7), leb-true r.boards r.tokens (search (and_l, and_r, s.size) depth 7))
 
 one_of_all : (r : Rack) → Sound r → (j b : ℕ) → Holder r j b r.tokens → Holder r j b 1
-one_of_all r s j b h = record { on = h.on; tokens = omega (arith, some-tokens r s, h.tokens) }
+one_of_all r s j b h = record { on = h.on; tokens = omega (arith, some_tokens r s, h.tokens) }
 
 -- by any reply that is the rules' for the item's step
 module _ {S I : Type 0} (answered : S → I → Reply) (is : I → Step → Type 0) (rackIn : S → Rack) (s : S)
-    (by-rules : (x : I) (t : Step) → is x t → answered s x ≡ ruledReply (rackIn s) t) where
-  pub single-writer : Sound (rackIn s) → SingleWriter answered is rackIn s
-  single-writer ok x c b w v a store e =
+    (by_rules : (x : I) (t : Step) → is x t → answered s x ≡ ruled_reply (rackIn s) t) where
+  pub single_writer : Sound (rackIn s) → SingleWriter answered is rackIn s
+  single_writer ok x c b w v a store e =
       let r = rackIn s in
-      let all = writer r c b w v a (sym (by-rules x (Store c b w v) store) ∙ e) in
+      let all = writer r c b w v a (sym (by_rules x (Store c b w v) store) ∙ e) in
       record {
-        no_reader = λ y j w' a' ne load e'. no_other r ok c b all j ne (reader r j b w' a' (sym (by-rules y (Load j b w') load) ∙ e'));
-        no-writer = λ y j w' v' a' ne other e'.
-            no_other r ok c b all j ne (one_of_all r ok j b (writer r j b w' v' a' (sym (by-rules y (Store j b w' v') other) ∙ e')));
-        none-in-flight = quiet r ok c b all;
+        no_reader = λ y j w' a' ne load e'. no_other r ok c b all j ne (reader r j b w' a' (sym (by_rules y (Load j b w') load) ∙ e'));
+        no_writer = λ y j w' v' a' ne other e'.
+            no_other r ok c b all j ne (one_of_all r ok j b (writer r j b w' v' a' (sym (by_rules y (Store j b w' v') other) ∙ e')));
+        none_in_flight = quiet r ok c b all;
       }
 
 -- ---- a component that is valid is one of a block of the rack
 
-within : (l : List Block) (b c : ℕ) → (get_or (get_or l b no_block).cells c noCell).valid ≡ true → b < length l
+within : (l : List Block) (b c : ℕ) → (get_or (get_or l b no_block).cells c no_cell).valid ≡ true → b < length l
 within [] b c v = differs (sym v)
 within (k ∷ l) zero c v = omega arith
 within (k ∷ l) (suc b) c v = suc-le-suc (within l b c v)
@@ -137,49 +137,49 @@ current : (r : Rack) (mem : Memory) → Coherent r mem → Current r mem
 current r mem coh =
     record {
       component = λ b c v.
-          all-anywhere (CellHas mem b) (block_at r b).cells (coh.has.cells b (within r.blocks b c v)) noCell (λ none. differs (sym none)) c v;
-      message = λ i. all-anywhere (MessageHas mem) r.mesh coh.has.mesh noMessage (λ none. differs (sym none)) i;
+          all_anywhere (CellHas mem b) (block_at r b).cells (coh.has.cells b (within r.blocks b c v)) no_cell (λ none. differs (sym none)) c v;
+      message = λ i. all_anywhere (MessageHas mem) r.mesh coh.has.mesh no_message (λ none. differs (sym none)) i;
     }
 
 -- ---- after a list from a fresh rack
 
 module _ (n b t : ℕ) (ss : List Step) (fits : sizes n b t ≡ true) where
-  rack-writer : SingleWriter ruledReply (λ x y. x ≡ y) (λ rack. rack) (run (fresh n b t) ss)
-  rack-writer =
-      single-writer ruledReply (λ x y. x ≡ y) (λ rack. rack) (run (fresh n b t) ss) (λ x y e. ap (ruledReply (run (fresh n b t) ss)) e)
-      (run-fresh n b t ss fits).sound
+  rack_writer : SingleWriter ruled_reply (λ x y. x ≡ y) (λ rack. rack) (run (fresh n b t) ss)
+  rack_writer =
+      single_writer ruled_reply (λ x y. x ≡ y) (λ rack. rack) (run (fresh n b t) ss) (λ x y e. ap (ruled_reply (run (fresh n b t) ss)) e)
+      (run_fresh n b t ss fits).sound
 
-  rack-current : Current (run (fresh n b t) ss) (memoryAfter (blank b) (rackAccesses (fresh n b t) ss))
-  rack-current = current (run (fresh n b t) ss) _ (run-fresh n b t ss fits).coherent
+  rack_current : Current (run (fresh n b t) ss) (memory_after (blank b) (rack_accesses (fresh n b t) ss))
+  rack_current = current (run (fresh n b t) ss) _ (run_fresh n b t ss fits).coherent
 
-pub single-writer-multiple-readers : SingleWriterMultipleReaders
-single-writer-multiple-readers n b t r ss e =
+pub single_writer_multiple_readers : SingleWriterMultipleReaders
+single_writer_multiple_readers n b t r ss e =
     let o = opened n b t r e in
-    subst (λ (q : Rack). SingleWriter ruledReply (λ x y. x ≡ y) (λ rack. rack) (run q ss)) o.1 (rack-writer n b t ss o.0)
+    subst (λ (q : Rack). SingleWriter ruled_reply (λ x y. x ≡ y) (λ rack. rack) (run q ss)) o.1 (rack_writer n b t ss o.0)
 
-pub data-value : DataValue
-data-value n b t r ss e =
+pub data_value : DataValue
+data_value n b t r ss e =
     let o = opened n b t r e in
-    subst (λ (q : Rack). Current (run q ss) (memoryAfter (blank b) (rackAccesses q ss))) o.1 (rack-current n b t ss o.0)
+    subst (λ (q : Rack). Current (run q ss) (memory_after (blank b) (rack_accesses q ss))) o.1 (rack_current n b t ss o.0)
 
-pub token-conservation : TokenConservation
-token-conservation n b t r ss e = (rack-coherence n b t r ss e).1
+pub token_conservation : TokenConservation
+token_conservation n b t r ss e = (rack_coherence n b t r ss e).1
 
 -- ---- and on a record that a list of byte strings leaves
 
-live-reply : (s : List ℕ) → Live s → (bytes : List ℕ) (t : Step) → readRecord bytes ≡ Read t → stepReply s bytes ≡ ruledReply (get s) t
-unfolding stepReply
-live-reply s live bytes t e = ap (λ (k : Reading). reply (outcome k s)) e ∙ ap reply (outcome-read s live t)
+live_reply : (s : List ℕ) → Live s → (bytes : List ℕ) (t : Step) → read_record bytes ≡ Read t → step_reply s bytes ≡ ruled_reply (get s) t
+unfolding step_reply
+live_reply s live bytes t e = ap (λ (k : Reading). reply (outcome k s)) e ∙ ap reply (outcome_read s live t)
 
-pub single-writer-multiple-readers-bytes : SingleWriterMultipleReadersBytes
-single-writer-multiple-readers-bytes n b t s steps bytes e =
-    let live = (from-opening n b t s steps bytes e).live in
-    single-writer stepReply (λ item step. readRecord item ≡ Read step) get _ (live-reply _ live) live.sound
+pub single_writer_multiple_readers_bytes : SingleWriterMultipleReadersBytes
+single_writer_multiple_readers_bytes n b t s steps bytes e =
+    let live = (from_opening n b t s steps bytes e).live in
+    single_writer step_reply (λ item step. read_record item ≡ Read step) get _ (live_reply _ live) live.sound
 
-pub data-value-bytes : DataValueBytes
-data-value-bytes n b t s steps bytes e =
-    let ran = from-opening n b t s steps bytes e in
-    rw (ran.rack, ran.accesses) (rack-current n b t (steps_of steps) ran.fits)
+pub data_value_bytes : DataValueBytes
+data_value_bytes n b t s steps bytes e =
+    let ran = from_opening n b t s steps bytes e in
+    rw (ran.rack, ran.accesses) (rack_current n b t (steps_of steps) ran.fits)
 
-pub token-conservation-bytes : TokenConservationBytes
-token-conservation-bytes n b t s steps bytes e = (coherence n b t s steps bytes e).1
+pub token_conservation_bytes : TokenConservationBytes
+token_conservation_bytes n b t s steps bytes e = (coherence n b t s steps bytes e).1

@@ -10,20 +10,20 @@ use Rattle.spec_wire.specs.declared.Refusal.{Refusal}
 use Rattle.spec_wire.specs.declared.Check.{Check}
 use Rattle.spec_wire.specs.declared.Step.TheVariants.{Load, Store, Send, Deliver, Raise, Lower, Forward}
 use Rattle.spec_wire.specs.Refusals.{number, when◌refuse◌else◌}
-use Rattle.spec_wire.specs.Kinds.{kind_of, fieldArray}
-use Rattle.spec_wire.specs.StepRecord.{fieldBytes, recordBytes, stepBytes}
-use Rattle.spec_wire.specs.Reader.{hasHeader, read_body, readRecord}
-use Rattle.spec_arbiter.specs.Boards.{bit, member, insert, remove, subset, boardsOnly, firstFrom, lowest}
-use Rattle.spec_arbiter.specs.Claims.{raiseCheck, raised, lowerCheck, lowered, soundBarring, soundClaims}
-use Rattle.spec_rack.specs.Rack.{meshLimit}
-use Rattle.spec_rack.specs.RecordLayout.{recordLength, blocksIn}
-use Rattle.spec_rack.specs.Soundness.{sound, wellFormedRecord, soundBytes}
+use Rattle.spec_wire.specs.Kinds.{kind_of, field_array}
+use Rattle.spec_wire.specs.StepRecord.{field_bytes, record_bytes, step_bytes}
+use Rattle.spec_wire.specs.Reader.{has_header, read_body, read_record}
+use Rattle.spec_arbiter.specs.Boards.{bit, member, insert, remove, subset, boards_only, first_from, lowest}
+use Rattle.spec_arbiter.specs.Claims.{raise_check, raised, lower_check, lowered, sound_barring, sound_claims}
+use Rattle.spec_rack.specs.Rack.{mesh_limit}
+use Rattle.spec_rack.specs.RecordLayout.{record_length, blocks_in}
+use Rattle.spec_rack.specs.Soundness.{sound, well_formed_record, sound_bytes}
 use Rattle.spec_rack.specs.Rules.{check, after, answer, rules, stored, sent, delivered, forwarded}
-use Rattle.spec_rack.specs.Letter.{letterCheck, letter, letterReply}
+use Rattle.spec_rack.specs.Letter.{letter_check, letter, letter_reply}
 use Rattle.spec_rack.specs.FlatMemory.{flat}
-use Rattle.spec_rack.specs.Lists.{runAll, answersOf, accessesOf}
-use Rattle.spec_rack.specs.Opening.{openCheck, openReply}
-use Rattle.spec_rack.specs.Entries.{stepReply}
+use Rattle.spec_rack.specs.Lists.{run_all, answers_of, accesses_of}
+use Rattle.spec_rack.specs.Opening.{open_check, open_reply}
+use Rattle.spec_rack.specs.Entries.{step_reply}
 use Rattle.spec_rack.specs.Readings.{listed, among, OnlyNaming, ShortRecord, FirstMatch, Edges, Effects, FlatMemory, RaiseAndLower, Soundness}
 
 -- a line of the table with a number of the list, above lines that keep to it
@@ -32,194 +32,194 @@ unfolding when◌refuse◌else◌
 keeps ns true n k here rest = here
 keeps ns false n k here rest = rest
 
-pub only-naming : OnlyNaming
-unfolding check raiseCheck lowerCheck
-only-naming r (Load c b w) = search keeps depth 12
-only-naming r (Store c b w v) = search keeps depth 12
-only-naming r (Send c b t p o d) = search keeps depth 12
-only-naming r (Deliver i) = search keeps depth 12
-only-naming r (Raise c b) = search keeps depth 12
-only-naming r (Lower c b) = search keeps depth 12
-only-naming r (Forward c b) = search keeps depth 12
+pub only_naming : OnlyNaming
+unfolding check raise_check lower_check
+only_naming r (Load c b w) = search keeps depth 12
+only_naming r (Store c b w v) = search keeps depth 12
+only_naming r (Send c b t p o d) = search keeps depth 12
+only_naming r (Deliver i) = search keeps depth 12
+only_naming r (Raise c b) = search keeps depth 12
+only_naming r (Lower c b) = search keeps depth 12
+only_naming r (Forward c b) = search keeps depth 12
 
-pub short-record : ShortRecord
-unfolding letterReply soundBytes wellFormedRecord
-short-record s c b l = rw (lt-leb (recordLength (blocksIn s)) (length s) l) refl
+pub short_record : ShortRecord
+unfolding letter_reply sound_bytes well_formed_record
+short_record s c b l = rw (lt-leb (record_length (blocks_in s)) (length s) l) refl
 
-pub first-match : FirstMatch
-unfolding runAll when◌refuse◌else◌ check after answer rules letterCheck letter meshLimit stored sent delivered forwarded raiseCheck raised lowerCheck lowered bit member insert remove firstFrom lowest stepReply letterReply soundBytes wellFormedRecord stepBytes fieldBytes recordBytes readRecord read_body hasHeader kind_of fieldArray openCheck openReply
-first-match =
+pub first_match : FirstMatch
+unfolding run_all when◌refuse◌else◌ check after answer rules letter_check letter mesh_limit stored sent delivered forwarded raise_check raised lower_check lowered bit member insert remove first_from lowest step_reply letter_reply sound_bytes well_formed_record step_bytes field_bytes record_bytes read_record read_body has_header kind_of field_array open_check open_reply
+first_match =
     record {
-      send-3 = refl;
-      send-8 = refl;
-      send-9 = refl;
-      send-10 = refl;
-      send-11 = refl;
-      send-12 = refl;
-      send-12-bare = refl;
-      send-13-bare = refl;
-      send-6 = refl;
-      send-13 = refl;
-      forward-3 = refl;
-      forward-3-claimed = refl;
-      forward-18 = refl;
-      forward-8 = refl;
-      forward-5 = refl;
-      forward-13 = refl;
-      home-3 = refl;
-      home-4 = refl;
-      home-4-claimed = refl;
-      home-4-all = refl;
-      home-5 = refl;
-      home-6 = refl;
-      board-3 = refl;
-      load-5 = refl;
-      letter-2 = refl;
-      letter-3 = refl;
-      letter-4 = refl;
-      step-1 = refl;
-      step-2 = refl;
-      opening-19 = refl;
-      opening-20 = refl;
+      send_3 = refl;
+      send_8 = refl;
+      send_9 = refl;
+      send_10 = refl;
+      send_11 = refl;
+      send_12 = refl;
+      send_12_bare = refl;
+      send_13_bare = refl;
+      send_6 = refl;
+      send_13 = refl;
+      forward_3 = refl;
+      forward_3_claimed = refl;
+      forward_18 = refl;
+      forward_8 = refl;
+      forward_5 = refl;
+      forward_13 = refl;
+      home_3 = refl;
+      home_4 = refl;
+      home_4_claimed = refl;
+      home_4_all = refl;
+      home_5 = refl;
+      home_6 = refl;
+      board_3 = refl;
+      load_5 = refl;
+      letter_2 = refl;
+      letter_3 = refl;
+      letter_4 = refl;
+      step_1 = refl;
+      step_2 = refl;
+      opening_19 = refl;
+      opening_20 = refl;
     }
 
 pub edges : Edges
-unfolding runAll when◌refuse◌else◌ check after answer rules letterCheck letter meshLimit stored sent delivered forwarded raiseCheck raised lowerCheck lowered bit member insert remove firstFrom lowest openCheck
+unfolding run_all when◌refuse◌else◌ check after answer rules letter_check letter mesh_limit stored sent delivered forwarded raise_check raised lower_check lowered bit member insert remove first_from lowest open_check
 edges =
     record {
-      component-in = refl;
-      component-out = refl;
+      component_in = refl;
+      component_out = refl;
       block_in = refl;
       block_out = refl;
       word_in = refl;
       word_out = refl;
-      target-in = refl;
-      target-out = refl;
-      letter-in = refl;
-      letter-off = refl;
-      letter-off-block = refl;
-      plain-high = refl;
-      position-high = refl;
+      target_in = refl;
+      target_out = refl;
+      letter_in = refl;
+      letter_off = refl;
+      letter_off_block = refl;
+      plain_high = refl;
+      position_high = refl;
       boards = refl;
       blocks = refl;
       tokens = refl;
       lengths = refl;
       longest = refl;
-      longest-fits = refl;
+      longest_fits = refl;
       buffer = refl;
     }
 
 pub effects : Effects
-unfolding runAll when◌refuse◌else◌ check after answer rules letterCheck letter meshLimit stored sent delivered forwarded raiseCheck raised lowerCheck lowered bit member insert remove firstFrom lowest answersOf sound all_below soundClaims boardsOnly soundBarring subset
+unfolding run_all when◌refuse◌else◌ check after answer rules letter_check letter mesh_limit stored sent delivered forwarded raise_check raised lower_check lowered bit member insert remove first_from lowest answers_of sound all_below sound_claims boards_only sound_barring subset
 effects =
     record {
-      fresh-home = refl;
-      fresh-boards = refl;
-      fresh-sets = refl;
-      fresh-mesh = refl;
-      store-there = refl;
-      store-only = refl;
-      store-no-board = refl;
-      store-last = refl;
-      send-all = refl;
-      send-some = refl;
-      claims-leave-words = refl;
-      send-data = refl;
-      send-no-data = refl;
-      send-accepted = refl;
-      deliver-position = refl;
-      deliver-data = refl;
-      deliver-no-data = refl;
-      deliver-stale = refl;
-      forward-bare = refl;
-      forward-own-block = refl;
-      forward-own-target = refl;
-      mesh-63 = refl;
-      mesh-63-send = refl;
-      letter-one = refl;
-      letter-one-stored = refl;
-      letter-other-at-home = (refl, refl);
+      fresh_home = refl;
+      fresh_boards = refl;
+      fresh_sets = refl;
+      fresh_mesh = refl;
+      store_there = refl;
+      store_only = refl;
+      store_no_board = refl;
+      store_last = refl;
+      send_all_lem = refl;
+      send_some = refl;
+      claims_leave_words = refl;
+      send_data = refl;
+      send_no_data = refl;
+      send_accepted = refl;
+      deliver_position = refl;
+      deliver_data = refl;
+      deliver_no_data = refl;
+      deliver_stale = refl;
+      forward_bare = refl;
+      forward_own_block = refl;
+      forward_own_target = refl;
+      mesh_63 = refl;
+      mesh_63_send = refl;
+      letter_one = refl;
+      letter_one_stored = refl;
+      letter_other_at_home = (refl, refl);
     }
 
-pub flat-memory : FlatMemory
-unfolding runAll when◌refuse◌else◌ check after answer rules letterCheck letter meshLimit stored sent delivered forwarded raiseCheck raised lowerCheck lowered bit member insert remove firstFrom lowest flat accessesOf
-flat-memory =
+pub flat_memory : FlatMemory
+unfolding run_all when◌refuse◌else◌ check after answer rules letter_check letter mesh_limit stored sent delivered forwarded raise_check raised lower_check lowered bit member insert remove first_from lowest flat accesses_of
+flat_memory =
     record {
       words = refl;
       handed = refl;
-      handed-at-home = refl;
+      handed_at_home = refl;
     }
 
-pub raise-and-lower : RaiseAndLower
-unfolding runAll when◌refuse◌else◌ check after answer rules letterCheck letter meshLimit stored sent delivered forwarded raiseCheck raised lowerCheck lowered bit member insert remove firstFrom lowest
-raise-and-lower =
+pub raise_and_lower : RaiseAndLower
+unfolding run_all when◌refuse◌else◌ check after answer rules letter_check letter mesh_limit stored sent delivered forwarded raise_check raised lower_check lowered bit member insert remove first_from lowest
+raise_and_lower =
     record {
       raise = refl;
-      active-first = refl;
-      active-displaced = refl;
+      active_first = refl;
+      active_displaced = refl;
       lower = refl;
-      lower-next = refl;
+      lower_next = refl;
       lower_last = refl;
       later = refl;
-      later-beside = refl;
+      later_beside = refl;
       other_block = refl;
     }
 
 pub soundness : Soundness
-unfolding sound meshLimit all_below soundClaims soundBarring subset boardsOnly bit member
+unfolding sound mesh_limit all_below sound_claims sound_barring subset boards_only bit member
 soundness =
     record {
       opened = refl;
-      met-on-the-way = refl;
-      no-board = refl;
-      many-boards = refl;
+      met_on_the_way = refl;
+      no_board = refl;
+      many_boards = refl;
       no_block = refl;
-      many-blocks = refl;
-      few-tokens = refl;
-      many-tokens = refl;
-      messages-64 = refl;
-      messages-65 = refl;
-      no-data = refl;
-      with-data = refl;
-      words-without-data = refl;
-      last-word-without-data = refl;
-      sender-N = refl;
-      sender-unknown = refl;
-      target-N = refl;
-      target-home = refl;
-      target-unknown = refl;
-      target-same = refl;
-      block-unknown = refl;
-      no-token = refl;
-      no-token-with-data = refl;
-      owner-with-data = refl;
-      bare-clean-board = refl;
-      bare-clean-home = refl;
-      bare-dirty-home = refl;
-      dirty-with-data = refl;
-      dirty-at-home = refl;
+      many_blocks = refl;
+      few_tokens = refl;
+      many_tokens = refl;
+      messages_64 = refl;
+      messages_65 = refl;
+      no_data = refl;
+      with_data = refl;
+      words_without_data = refl;
+      last_word_without_data = refl;
+      sender_N = refl;
+      sender_unknown = refl;
+      target_N = refl;
+      target_home = refl;
+      target_unknown = refl;
+      target_same = refl;
+      block_unknown = refl;
+      no_token = refl;
+      no_token_with_data = refl;
+      owner_with_data = refl;
+      bare_clean_board = refl;
+      bare_clean_home = refl;
+      bare_dirty_home = refl;
+      dirty_with_data = refl;
+      dirty_at_home = refl;
       shared = refl;
       one_more = refl;
       one_less = refl;
-      one-more-in-flight = refl;
-      one-less-of-another = refl;
-      two-owners = refl;
-      no-owner = refl;
-      two-owners-in-flight = refl;
-      valid-without-token = refl;
-      home-valid-without-token = refl;
-      owner-not-valid = refl;
-      dirty-not-valid = refl;
+      one_more_in_flight = refl;
+      one_less_of_another = refl;
+      two_owners = refl;
+      no_owner = refl;
+      two_owners_in_flight = refl;
+      valid_without_token = refl;
+      home_valid_without_token = refl;
+      owner_not_valid = refl;
+      dirty_not_valid = refl;
       left_behind = refl;
-      waits-N = refl;
-      waits-0 = refl;
-      waits-above = refl;
-      bars-0 = refl;
-      bars-above = refl;
-      bars-within = refl;
-      bars-outside = refl;
-      both-wait = refl;
-      waiting-is-barred = refl;
-      last-is-barred = refl;
-      bars-outside-in-another = refl;
+      waits_N = refl;
+      waits_0 = refl;
+      waits_above = refl;
+      bars_0 = refl;
+      bars_above = refl;
+      bars_within = refl;
+      bars_outside = refl;
+      both_wait = refl;
+      waiting_is_barred = refl;
+      last_is_barred = refl;
+      bars_outside_in_another = refl;
     }

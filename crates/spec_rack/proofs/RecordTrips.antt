@@ -8,70 +8,70 @@ use lib.Dec.{ltb}
 use borrow.Author.Tests.{ltb-true, lt-ltb}
 use Rattle.spec_base.specs.Folds.{all}
 use Rattle.spec_base.specs.Number.{Bytes}
-use Rattle.spec_base.proofs.Tests.{and_l, and_r, and-of}
-use Rattle.spec_base.proofs.Folds.{all-at, all_of, all-every, every-all}
+use Rattle.spec_base.proofs.Tests.{and_l, and_r, and_of}
+use Rattle.spec_base.proofs.Folds.{all_at, all_of, all_every, every_all}
 use Rattle.spec_rack.specs.Rack.{Cell, Block, Rack, no_block, block_at}
 use Rattle.spec_rack.specs.declared.Message.{Message}
-use Rattle.spec_rack.specs.Soundness.{sound, soundBytes}
-use Rattle.spec_rack.specs.RecordLayout.{recordLength, get, put}
-use Rattle.spec_rack.specs.RecordTrips.{fitting, wordsFit, Written, RecordTrips}
-use Rattle.spec_rack.proofs.SoundnessFacts.{Sound, sound-facts, sound-test}
+use Rattle.spec_rack.specs.Soundness.{sound, sound_bytes}
+use Rattle.spec_rack.specs.RecordLayout.{record_length, get, put}
+use Rattle.spec_rack.specs.RecordTrips.{fitting, words_fit, Written, RecordTrips}
+use Rattle.spec_rack.proofs.SoundnessFacts.{Sound, sound_facts, sound_test}
 use Rattle.spec_rack.proofs.BlockInvariant.{Fit, Fits}
-use Rattle.spec_rack.proofs.GetPut.{get-put, put-get, put_keeps, put-behind, put-formed}
+use Rattle.spec_rack.proofs.GetPut.{get_put, put_get, put_keeps, put_behind, put_formed}
 use Rattle.spec_rack.proofs.Representable.{holdable}
-use Rattle.spec_rack.proofs.SoundRecord.{live_of, sound-of}
+use Rattle.spec_rack.proofs.SoundRecord.{live_of, sound_of}
 
 fit_of : (ws : List ℕ) → fitting ws ≡ true → Fit ws
-fit_of ws = all-every (λ (w : ℕ). w < 2 ^ 32) (λ w. ltb w (2 ^ 32)) ws (λ w e. ltb-true w (2 ^ 32) e)
+fit_of ws = all_every (λ (w : ℕ). w < 2 ^ 32) (λ w. ltb w (2 ^ 32)) ws (λ w e. ltb-true w (2 ^ 32) e)
 
-fit-test : (ws : List ℕ) → Fit ws → fitting ws ≡ true
-fit-test ws = every-all (λ (w : ℕ). w < 2 ^ 32) (λ w. ltb w (2 ^ 32)) ws (λ w l. lt-ltb w (2 ^ 32) l)
+fit_test : (ws : List ℕ) → Fit ws → fitting ws ≡ true
+fit_test ws = every_all (λ (w : ℕ). w < 2 ^ 32) (λ w. ltb w (2 ^ 32)) ws (λ w l. lt-ltb w (2 ^ 32) l)
 
-abbrev cellsFit : Block → Bool
-cellsFit k = all (λ x. fitting x.words) k.cells
+abbrev cells_fit : Block → Bool
+cells_fit k = all (λ x. fitting x.words) k.cells
 
-abbrev meshFits : List Message → Bool
-meshFits ms = all (λ m. fitting m.words) ms
+abbrev mesh_fits : List Message → Bool
+mesh_fits ms = all (λ m. fitting m.words) ms
 
-fits-of : (r : Rack) → wordsFit r ≡ true → Fits r
-fits-of r h =
+fits_of : (r : Rack) → words_fit r ≡ true → Fits r
+fits_of r h =
     record {
       cells = λ b l.
-          all-every (λ (x : Cell). Fit x.words) (λ x. fitting x.words) (block_at r b).cells (λ x. fit_of x.words)
-          (all-at (λ (k : Block). cellsFit k ≡ true) r.blocks
-          (all-every (λ (k : Block). cellsFit k ≡ true) cellsFit r.blocks (λ k e. e) (and_l (all cellsFit r.blocks) (meshFits r.mesh) h)) b no_block l);
+          all_every (λ (x : Cell). Fit x.words) (λ x. fitting x.words) (block_at r b).cells (λ x. fit_of x.words)
+          (all_at (λ (k : Block). cells_fit k ≡ true) r.blocks
+          (all_every (λ (k : Block). cells_fit k ≡ true) cells_fit r.blocks (λ k e. e) (and_l (all cells_fit r.blocks) (mesh_fits r.mesh) h)) b no_block l);
       mesh =
-          all-every (λ (m : Message). Fit m.words) (λ m. fitting m.words) r.mesh (λ m. fit_of m.words)
-          (and_r (all cellsFit r.blocks) (meshFits r.mesh) h);
+          all_every (λ (m : Message). Fit m.words) (λ m. fitting m.words) r.mesh (λ m. fit_of m.words)
+          (and_r (all cells_fit r.blocks) (mesh_fits r.mesh) h);
     }
 
-fits-test : (r : Rack) → Fits r → wordsFit r ≡ true
-fits-test r f =
-    and-of (all cellsFit r.blocks) (meshFits r.mesh)
-    (every-all (λ (k : Block). cellsFit k ≡ true) cellsFit r.blocks (λ k e. e)
-    (all_of (λ (k : Block). cellsFit k ≡ true) no_block r.blocks
-    (λ b l. every-all (λ (x : Cell). Fit x.words) (λ x. fitting x.words) (block_at r b).cells (λ x. fit-test x.words) (f.cells b l))))
-    (every-all (λ (m : Message). Fit m.words) (λ m. fitting m.words) r.mesh (λ m. fit-test m.words) f.mesh)
+fits_test : (r : Rack) → Fits r → words_fit r ≡ true
+fits_test r f =
+    and_of (all cells_fit r.blocks) (mesh_fits r.mesh)
+    (every_all (λ (k : Block). cells_fit k ≡ true) cells_fit r.blocks (λ k e. e)
+    (all_of (λ (k : Block). cells_fit k ≡ true) no_block r.blocks
+    (λ b l. every_all (λ (x : Cell). Fit x.words) (λ x. fitting x.words) (block_at r b).cells (λ x. fit_test x.words) (f.cells b l))))
+    (every_all (λ (m : Message). Fit m.words) (λ m. fitting m.words) r.mesh (λ m. fit_test m.words) f.mesh)
 
-written-trip : (r : Rack) (s : List ℕ) → sound r ≡ true → wordsFit r ≡ true → Bytes s → recordLength (length r.blocks) ≤ length s → Written r s
-written-trip r s ok fit bytes room =
-    let sr = sound-facts r ok in
-    let fr = fits-of r fit in
+written_trip : (r : Rack) (s : List ℕ) → sound r ≡ true → words_fit r ≡ true → Bytes s → record_length (length r.blocks) ≤ length s → Written r s
+written_trip r s ok fit bytes room =
+    let sr = sound_facts r ok in
+    let fr = fits_of r fit in
     let h = holdable r sr fr in
-    let back = get-put r h s room in
+    let back = get_put r h s room in
     record {
       back = back;
-      sound = sound-of (put r s) (record { wellFormed = put-formed r h s room bytes; sound = subst Sound (sym back) sr; fits = subst Fits (sym back) fr });
-      rest = record { size = put_keeps r h s room; behind = put-behind r h s room };
+      sound = sound_of (put r s) (record { well_formed = put_formed r h s room bytes; sound = subst Sound (sym back) sr; fits = subst Fits (sym back) fr });
+      rest = record { size = put_keeps r h s room; behind = put_behind r h s room };
     }
 
-pub record-trips : RecordTrips
-record-trips =
+pub record_trips : RecordTrips
+record_trips =
     record {
-      written = written-trip;
-      read = λ s bytes ok. let live = live_of s bytes ok in (sound-test (get s) live.sound, fits-test (get s) live.fits);
-      unchanged = λ s bytes ok. put-get s (live_of s bytes ok).wellFormed;
+      written = written_trip;
+      read = λ s bytes ok. let live = live_of s bytes ok in (sound_test (get s) live.sound, fits_test (get s) live.fits);
+      unchanged = λ s bytes ok. put_get s (live_of s bytes ok).well_formed;
       only = λ r s ok fit bytes room same.
-          let w = written-trip r s ok fit bytes room in
-          (subst (λ (t : List ℕ). soundBytes t ≡ true) same w.sound, ap get (sym same) ∙ w.back);
+          let w = written_trip r s ok fit bytes room in
+          (subst (λ (t : List ℕ). sound_bytes t ≡ true) same w.sound, ap get (sym same) ∙ w.back);
     }

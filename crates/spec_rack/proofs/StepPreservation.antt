@@ -8,28 +8,28 @@ use native.Mathlib.Omega.{arith}
 use borrow.Author.Tests.{ltb-false, leb-false, leb-true, eqb-false, not-false}
 use lib.ListN.{length, get_or, length-set}
 use lib.Dec.{eqb, leb, ltb}
-use Rattle.spec_base.proofs.Tests.{differs, and_l, and_r, or_l, or_r, and-not}
+use Rattle.spec_base.proofs.Tests.{differs, and_l, and_r, or_l, or_r, and_not}
 use Rattle.spec_wire.specs.declared.Refusal.{Refusal}
 use Rattle.spec_wire.specs.declared.Check.{Check}
 use Rattle.spec_wire.specs.declared.Check.TheVariants.{Pass, Refuse}
 use Rattle.spec_wire.specs.Refusals.{when◌refuse◌else◌}
 use Rattle.spec_wire.specs.declared.Step.{Step}
 use Rattle.spec_wire.specs.declared.Step.TheVariants.{Load, Store, Send, Deliver, Raise, Lower, Forward}
-use Rattle.spec_arbiter.specs.Boards.{boardRoom}
-use Rattle.spec_arbiter.specs.Claims.{raiseCheck, raised, lowerCheck, lowered}
-use Rattle.spec_arbiter.proofs.Claims.{SoundClaims, raised-sound, lowered-sound, active-known}
+use Rattle.spec_arbiter.specs.Boards.{board_room}
+use Rattle.spec_arbiter.specs.Claims.{raise_check, raised, lower_check, lowered}
+use Rattle.spec_arbiter.proofs.Claims.{SoundClaims, raised_sound, lowered_sound, active_known}
 use Rattle.spec_rack.specs.declared.Message.{Message}
 use Rattle.spec_rack.specs.declared.Answer.{Answer}
-use Rattle.spec_rack.specs.Rack.{Block, Rack, meshLimit, claimsAt, cell_at}
+use Rattle.spec_rack.specs.Rack.{Block, Rack, mesh_limit, claims_at, cell_at}
 use Rattle.spec_rack.specs.Soundness.{sound}
-use Rattle.spec_rack.specs.Rules.{Outcome, refused, accepted, settled, check, after, answer, offRack, meshFull, pastMesh, changed, rules, stored, sent, delivered, forwarded}
-use Rattle.spec_rack.specs.FlatMemory.{Memory, memoryAfter, flat, accessOf}
+use Rattle.spec_rack.specs.Rules.{Outcome, refused, accepted, settled, check, after, answer, off_rack, mesh_full, past_mesh, changed, rules, stored, sent, delivered, forwarded}
+use Rattle.spec_rack.specs.FlatMemory.{Memory, memory_after, flat, access_of}
 use Rattle.spec_rack.specs.Lists.{words_of}
-use Rattle.spec_rack.proofs.SoundnessFacts.{Sound, sound-facts, sound-test}
-use Rattle.spec_rack.proofs.OwnerLaws.{not-bare}
-use Rattle.spec_rack.proofs.BlockInvariant.{Coherent, Fits, cell-has}
-use Rattle.spec_rack.proofs.TokenConservation.{Moved, sent-keeps, delivered-keeps, forwarded-keeps, claims-keep}
-use Rattle.spec_rack.proofs.ExclusiveStore.{stored-sound, stored-coherent, stored-fits}
+use Rattle.spec_rack.proofs.SoundnessFacts.{Sound, sound_facts, sound_test}
+use Rattle.spec_rack.proofs.OwnerLaws.{not_bare}
+use Rattle.spec_rack.proofs.BlockInvariant.{Coherent, Fits, cell_has}
+use Rattle.spec_rack.proofs.TokenConservation.{Moved, sent_keeps, delivered_keeps, forwarded_keeps, claims_keep}
+use Rattle.spec_rack.proofs.ExclusiveStore.{stored_sound, stored_coherent, stored_fits}
 
 -- ---- what an accepted step keeps
 
@@ -49,8 +49,8 @@ pub record Kept (r : Rack) (t : Step) (a : Answer) (r' : Rack) : Type 0 where
   pub boards : r'.boards ≡ r.boards
   pub tokens : r'.tokens ≡ r.tokens
   pub count : length r'.blocks ≡ length r.blocks
-  pub word : (mem : Memory) → Coherent r mem → words_of a ≡ flat mem (accessOf t)
-  pub coherent : (mem : Memory) → Coherent r mem → Coherent r' (memoryAfter mem (accessOf t))
+  pub word : (mem : Memory) → Coherent r mem → words_of a ≡ flat mem (access_of t)
+  pub coherent : (mem : Memory) → Coherent r mem → Coherent r' (memory_after mem (access_of t))
   pub fits : StepFits t → Fits r → Fits r'
 
 -- a property of an accepted outcome
@@ -84,27 +84,27 @@ some : (n : ℕ) → eqb n 0 ≡ false → 0 < n
 some n h = let ne : n ≡ 0 → ⊥ = eqb-false n 0 h in omega arith
 
 module _ (r : Rack) (s : Sound r) where
-  few-boards : r.boards < boardRoom
-  few-boards = omega (arith, leb-true r.boards 15 (search (and_l, and_r, s.size)))
+  few_boards : r.boards < board_room
+  few_boards = omega (arith, leb-true r.boards 15 (search (and_l, and_r, s.size)))
 
-  room : meshFull r ≡ false → length r.mesh < meshLimit
+  room : mesh_full r ≡ false → length r.mesh < mesh_limit
   room h = omega (arith, leb-false)
 
-  pub in-mesh : (i : ℕ) → pastMesh r i ≡ false → i < length r.mesh
-  in-mesh i h = omega (arith, leb-false)
+  pub in_mesh_lem : (i : ℕ) → past_mesh r i ≡ false → i < length r.mesh
+  in_mesh_lem i h = omega (arith, leb-false)
 
-  module _ (c b : ℕ) (on : offRack r c b ≡ false) where
-    pub inN : c ≤ r.boards
-    inN = ltb-false _ _ (or_l (ltb r.boards c) (leb (length r.blocks) b) on)
+  module _ (c b : ℕ) (on : off_rack r c b ≡ false) where
+    pub in_n : c ≤ r.boards
+    in_n = ltb-false _ _ (or_l (ltb r.boards c) (leb (length r.blocks) b) on)
 
     pub in_b : b < length r.blocks
     in_b = leb-false _ _ (or_r (ltb r.boards c) (leb (length r.blocks) b) on)
 
-    claims-sound : SoundClaims r.boards (claimsAt r b)
-    claims-sound = (s.blocks b in_b).shape.claims
+    claims_sound : SoundClaims r.boards (claims_at r b)
+    claims_sound = (s.blocks b in_b).shape.claims
 
   -- a step that the flat memory is not handed
-  moved : (t : Step) (a : Answer) (b : ℕ) (k : Block) (ms : List Message) → accessOf t ≡ [] → words_of a ≡ []
+  moved : (t : Step) (a : Answer) (b : ℕ) (k : Block) (ms : List Message) → access_of t ≡ [] → words_of a ≡ []
       → Moved r (changed r b k ms) → Kept r t a (changed r b k ms)
   unfolding flat
   moved t a b k ms e w m =
@@ -134,7 +134,7 @@ module _ (r : Rack) (s : Sound r) where
         boards = refl;
         tokens = refl;
         count = refl;
-        word = λ mem coh. ap (λ (ws : List ℕ). get_or ws w 0 ∷ []) (cell-has r s b c (in_b c b on) (inN c b on) mem coh (not-false _ valid));
+        word = λ mem coh. ap (λ (ws : List ℕ). get_or ws w 0 ∷ []) (cell_has r s b c (in_b c b on) (in_n c b on) mem coh (not-false _ valid));
         coherent = λ mem coh. coh;
         fits = λ small h. h;
       }
@@ -146,13 +146,13 @@ module _ (r : Rack) (s : Sound r) where
       let on = or_l _ _ known in
       let enough = ltb-false _ _ all in
       record {
-        sound = stored-sound r s c b (inN c b on) (in_b c b on) enough w v;
+        sound = stored_sound r s c b (in_n c b on) (in_b c b on) enough w v;
         boards = refl;
         tokens = refl;
         count = simp length-set;
         word = λ mem coh. refl;
-        coherent = stored-coherent r s c b (inN c b on) (in_b c b on) enough w v (search eqb-false);
-        fits = stored-fits r s c b (inN c b on) (in_b c b on) enough w v;
+        coherent = stored_coherent r s c b (in_n c b on) (in_b c b on) enough w v (search eqb-false);
+        fits = stored_fits r s c b (in_n c b on) (in_b c b on) enough w v;
       }
   passed (Send c b t p o d) =
       let past = guard (Goal (Send c b t p o d)) in
@@ -166,28 +166,28 @@ module _ (r : Rack) (s : Sound r) where
       past _ _ _ λ full.
       let on = or_l _ _ known in
       moved (Send c b t p o d) _ _ _ _ refl refl
-      (sent-keeps r s c b t p o d (inN c b on) (in_b c b on) (ltb-false _ _ (or_r (offRack r c b) _ known)) (eqb-false _ _ apart)
-      (some _ token) (ltb-false _ _ (or_l _ _ enough)) (and-not o _ (or_r (ltb (cell_at r b c).plain p) _ enough)) (search (not-bare, and_l, differs))
-      (and-not d _ stale) (room full))
+      (sent_keeps r s c b t p o d (in_n c b on) (in_b c b on) (ltb-false _ _ (or_r (off_rack r c b) _ known)) (eqb-false _ _ apart)
+      (some _ token) (ltb-false _ _ (or_l _ _ enough)) (and_not o _ (or_r (ltb (cell_at r b c).plain p) _ enough)) (search (not_bare, and_l, differs))
+      (and_not d _ stale) (room full))
   passed (Deliver i) =
       let past = guard (Goal (Deliver i)) in
       past _ _ _ λ there.
-      moved (Deliver i) _ _ _ _ refl refl (delivered-keeps r s i (in-mesh i there))
+      moved (Deliver i) _ _ _ _ refl refl (delivered_keeps r s i (in_mesh_lem i there))
   passed (Raise c b) =
       let past = guard (Goal (Raise c b)) in
       past _ _ _ λ on.
       past _ _ _ λ board.
-      given (Goal (Raise c b)) (raiseCheck (claimsAt r b) c) λ free.
+      given (Goal (Raise c b)) (raise_check (claims_at r b) c) λ free.
       moved (Raise c b) _ _ _ _ refl refl
-      (claims-keep r s b (raised (claimsAt r b) c) (in_b c b on)
-      (raised-sound (claims-sound c b on) (search some) (inN c b on) few-boards free))
+      (claims_keep r s b (raised (claims_at r b) c) (in_b c b on)
+      (raised_sound (claims_sound c b on) (search some) (in_n c b on) few_boards free))
   passed (Lower c b) =
       let past = guard (Goal (Lower c b)) in
       past _ _ _ λ on.
       past _ _ _ λ board.
-      given (Goal (Lower c b)) (lowerCheck (claimsAt r b) c) λ waiting.
+      given (Goal (Lower c b)) (lower_check (claims_at r b) c) λ waiting.
       moved (Lower c b) _ _ _ _ refl refl
-      (claims-keep r s b (lowered (claimsAt r b) c) (in_b c b on) (lowered-sound (claims-sound c b on) (search some) (inN c b on)))
+      (claims_keep r s b (lowered (claims_at r b) c) (in_b c b on) (lowered_sound (claims_sound c b on) (search some) (in_n c b on)))
   passed (Forward c b) =
       let past = guard (Goal (Forward c b)) in
       past _ _ _ λ on.
@@ -196,7 +196,7 @@ module _ (r : Rack) (s : Sound r) where
       past _ _ _ λ token.
       past _ _ _ λ full.
       moved (Forward c b) _ _ _ _ refl refl
-      (forwarded-keeps r s c b (inN c b on) (in_b c b on) (active-known (claims-sound c b on) claimed).1 (eqb-false _ _ apart) (some _ token) (room full))
+      (forwarded_keeps r s c b (in_n c b on) (in_b c b on) (active_known (claims_sound c b on) claimed).1 (eqb-false _ _ apart) (some _ token) (room full))
 
   -- ---- of every step: by the outcome, and from an accepted one
 
@@ -204,13 +204,13 @@ module _ (r : Rack) (s : Sound r) where
   unfolding rules
   step_keeps t = settle (Kept r t) (check r t) (answer r t) (after r t) (passed t)
 
-  pub accepted-keeps : (t : Step) (a : Answer) (r' : Rack) → rules r t ≡ accepted a r' → Kept r t a r'
-  accepted-keeps t a r' e = subst (Keeps (Kept r t)) e (step_keeps t)
+  pub accepted_keeps : (t : Step) (a : Answer) (r' : Rack) → rules r t ≡ accepted a r' → Kept r t a r'
+  accepted_keeps t a r' e = subst (Keeps (Kept r t)) e (step_keeps t)
 
 -- the test of soundness, and that every word fits 32 bits
 
-pub step-sound : (r r' : Rack) (t : Step) (a : Answer) → sound r ≡ true → rules r t ≡ accepted a r' → sound r' ≡ true
-step-sound r r' t a h e = sound-test r' (accepted-keeps r (sound-facts r h) t a r' e).sound
+pub step_sound : (r r' : Rack) (t : Step) (a : Answer) → sound r ≡ true → rules r t ≡ accepted a r' → sound r' ≡ true
+step_sound r r' t a h e = sound_test r' (accepted_keeps r (sound_facts r h) t a r' e).sound
 
 pub step_fits : (r r' : Rack) (t : Step) (a : Answer) → sound r ≡ true → rules r t ≡ accepted a r' → StepFits t → Fits r → Fits r'
-step_fits r r' t a h e = (accepted-keeps r (sound-facts r h) t a r' e).fits
+step_fits r r' t a h e = (accepted_keeps r (sound_facts r h) t a r' e).fits

@@ -125,9 +125,9 @@ refusals =
     ∷ (Forward 1 0, 18) ∷ (Forward 1 2, 8) ∷ (Forward 4 2, 5) ∷ []
 
 pub record AfterEachStep : Type 0 where
-  pub is-sound : sound diverse ≡ true
+  pub is_sound : sound diverse ≡ true
   -- load: gives the word, at home and at a board
-  pub load-home : rules diverse (Load 0 0 5) ≡ accepted (Word 0xA05) diverse
+  pub load_home : rules diverse (Load 0 0 5) ≡ accepted (Word 0xA05) diverse
   pub load : rules diverse (Load 3 2 5) ≡ accepted (Word 0xC35) diverse
   -- store: the word in that component only; the owner there becomes dirty
   pub store :
@@ -143,31 +143,31 @@ pub record AfterEachStep : Type 0 where
       (rack (block cell00 (cell 1 Away true (eight 0xA10)) cell02 (stale 0xA30) cell04 sets0) block1 block2
       (mail0 ∷ mail1 ∷ mail2 ∷ mail3 ∷ mail4 ∷ mail 1 3 0 5 Dirty true (eight 0xA10) ∷ []))
   -- if nothing is held afterwards, valid becomes no
-  pub send-all :
+  pub send_all_lem :
       rules diverse (Send 4 0 1 2 false false)
       ≡ accepted Done
       (rack (block cell00 cell01 cell02 (stale 0xA30) (stale 0xA40) sets0) block1 block2
       (mail0 ∷ mail1 ∷ mail2 ∷ mail3 ∷ mail4 ∷ mail 4 1 0 2 Away false zeros ∷ []))
   -- deliver: removes that message, the rest keeping their order, and adds its tokens to the target; with data, the target's words become the message's and
   -- valid becomes yes
-  pub deliver-data :
+  pub deliver_data :
       rules diverse (Deliver 0)
       ≡ accepted (Served 1 2)
       (rack block0 block1 (block cell20 (cell 20 Away true (eight 0xD00)) (stale 0xC20) cell23 (stale 0xC40) sets2) (mail1 ∷ mail2 ∷ mail3 ∷ mail4 ∷ []))
-  pub deliver-no-data :
+  pub deliver_no_data :
       rules diverse (Deliver 1)
       ≡ accepted (Served 2 2)
       (rack block0 block1 (block cell20 cell21 (cell 11 Away false (eight 0xC20)) cell23 (stale 0xC40) sets2) (mail0 ∷ mail2 ∷ mail3 ∷ mail4 ∷ []))
   -- home, receiving a clean owner without data, becomes valid with the words it already has
-  pub deliver-bare :
+  pub deliver_bare :
       rules diverse (Deliver 2)
       ≡ accepted (Served 0 2)
       (rack block0 block1 (block (cell 19 Clean true (eight 0xC00)) cell21 (stale 0xC20) cell23 (stale 0xC40) sets2) (mail0 ∷ mail1 ∷ mail3 ∷ mail4 ∷ []))
-  pub deliver-data-to-valid :
+  pub deliver_data_to_valid :
       rules diverse (Deliver 3)
       ≡ accepted (Served 4 0)
       (rack (block cell00 cell01 cell02 (stale 0xA30) (cell 14 Away true (eight 0xE00)) sets0) block1 block2 (mail0 ∷ mail1 ∷ mail2 ∷ mail4 ∷ []))
-  pub deliver-no-data-to-valid :
+  pub deliver_no_data_to_valid :
       rules diverse (Deliver 4)
       ≡ accepted (Served 0 0)
       (rack (block (cell 31 Away true (eight 0xA00)) cell01 cell02 (stale 0xA30) cell04 sets0) block1 block2 (mail0 ∷ mail1 ∷ mail2 ∷ mail3 ∷ []))
@@ -175,14 +175,14 @@ pub record AfterEachStep : Type 0 where
   pub raise :
       rules diverse (Raise 1 1)
       ≡ accepted Done (rack block0 (block (stale 0xB00) (stale 0xB10) cell12 (stale 0xB30) (stale 0xB40) (18 ∷ 0 ∷ 0 ∷ 16 ∷ 0 ∷ [])) block2 mesh)
-  pub raise-with-all :
+  pub raise_with_all :
       rules diverse (Raise 2 1)
       ≡ accepted Done (rack block0 (block (stale 0xB00) (stale 0xB10) cell12 (stale 0xB30) (stale 0xB40) (20 ∷ 0 ∷ 0 ∷ 16 ∷ 0 ∷ [])) block2 mesh)
   -- lower: the board leaves the waiting set and every barring set of that block; its own barring set becomes the waiting set that remains
   pub lower :
       rules diverse (Lower 4 2)
       ≡ accepted Done (rack block0 block1 (block cell20 cell21 (stale 0xC20) cell23 (stale 0xC40) (10 ∷ 0 ∷ 2 ∷ 0 ∷ 10 ∷ [])) mesh)
-  pub lower-valid :
+  pub lower_valid :
       rules diverse (Lower 3 2)
       ≡ accepted Done (rack block0 block1 (block cell20 cell21 (stale 0xC20) cell23 (stale 0xC40) (18 ∷ 0 ∷ 18 ∷ 18 ∷ 0 ∷ [])) mesh)
   -- forward: all held tokens to the active board, which is board 1; data exactly if valid
@@ -191,13 +191,13 @@ pub record AfterEachStep : Type 0 where
       ≡ accepted Done
       (rack block0 block1 (block cell20 cell21 (stale 0xC20) (stale 0xC30) (stale 0xC40) sets2)
       (mail0 ∷ mail1 ∷ mail2 ∷ mail3 ∷ mail4 ∷ mail 3 1 2 9 Away true (eight 0xC30) ∷ []))
-  pub forward-no-data :
+  pub forward_no_data :
       rules diverse (Forward 0 2)
       ≡ accepted Done
       (rack block0 block1 (block (stale 0xC00) cell21 (stale 0xC20) cell23 (stale 0xC40) sets2)
       (mail0 ∷ mail1 ∷ mail2 ∷ mail3 ∷ mail4 ∷ mail 0 1 2 3 Away false zeros ∷ []))
   -- the active board stores: it waits on, and is still the active board
-  pub store-active :
+  pub store_active :
       rules (run diverse (Raise 2 1 ∷ [])) (Store 2 1 5 99)
       ≡ accepted Done
       (rack block0
@@ -205,24 +205,24 @@ pub record AfterEachStep : Type 0 where
       (20 ∷ 0 ∷ 0 ∷ 16 ∷ 0 ∷ []))
       block2 mesh)
   -- all goes home, with data and bare: the words of the sender stay
-  pub send-home :
+  pub send_home :
       rules diverse (Send 1 0 0 6 true true)
       ≡ accepted Done
       (rack (block cell00 (stale 0xA10) cell02 (stale 0xA30) cell04 sets0) block1 block2
       (mail0 ∷ mail1 ∷ mail2 ∷ mail3 ∷ mail4 ∷ mail 1 0 0 6 Dirty true (eight 0xA10) ∷ []))
-  pub send-bare :
+  pub send_bare_lem :
       rules (run diverse (Lower 4 1 ∷ [])) (Send 2 1 0 59 true false)
       ≡ accepted Done
       (rack block0 (block (stale 0xB00) (stale 0xB10) (stale 0xB20) (stale 0xB30) (stale 0xB40) sets0) block2
       (mail0 ∷ mail1 ∷ mail2 ∷ mail3 ∷ mail4 ∷ mail 2 0 1 59 Clean false zeros ∷ []))
   -- a board that holds tokens and is not valid raises and lowers
-  pub raise-not-valid :
+  pub raise_not_valid :
       rules diverse (Raise 2 0) ≡ accepted Done (rack (block cell00 cell01 cell02 (stale 0xA30) cell04 (4 ∷ 0 ∷ 0 ∷ 0 ∷ 0 ∷ [])) block1 block2 mesh)
-  pub lower-not-valid :
+  pub lower_not_valid :
       rules diverse (Lower 1 2)
       ≡ accepted Done (rack block0 block1 (block cell20 cell21 (stale 0xC20) cell23 (stale 0xC40) (24 ∷ 24 ∷ 16 ∷ 0 ∷ 0 ∷ [])) mesh)
   -- forward with the owner: all goes, the words of the sender stay
-  pub forward-owner :
+  pub forward_owner :
       rules diverse (Forward 2 1)
       ≡ accepted Done
       (rack block0 (block (stale 0xB00) (stale 0xB10) (stale 0xB20) (stale 0xB30) (stale 0xB40) sets1) block2

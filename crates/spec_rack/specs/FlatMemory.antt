@@ -23,9 +23,9 @@ accessed mem (load b w) = mem
 accessed mem (store b w v) = set mem b (set (get_or mem b []) w v)
 
 -- the memory after a list of accesses
-abbrev pub memoryAfter : Memory → List Access → Memory
-memoryAfter mem [] = mem
-memoryAfter mem (a ∷ rest) = memoryAfter (accessed mem a) rest
+abbrev pub memory_after : Memory → List Access → Memory
+memory_after mem [] = mem
+memory_after mem (a ∷ rest) = memory_after (accessed mem a) rest
 
 -- a load gives the word there
 abbrev pub given : Memory → Access → List ℕ
@@ -39,11 +39,11 @@ flat mem (a ∷ rest) = given mem a ++ flat (accessed mem a) rest
 
 -- ---- the access of a load or a store; other steps are none
 
-abbrev pub accessOf : Step → List Access
-accessOf (Load c b w) = load b w ∷ []
-accessOf (Store c b w v) = store b w v ∷ []
-accessOf (Send c b t p o d) = []
-accessOf (Deliver i) = []
-accessOf (Raise c b) = []
-accessOf (Lower c b) = []
-accessOf (Forward c b) = []
+abbrev pub access_of : Step → List Access
+access_of (Load c b w) = load b w ∷ []
+access_of (Store c b w v) = store b w v ∷ []
+access_of (Send c b t p o d) = []
+access_of (Deliver i) = []
+access_of (Raise c b) = []
+access_of (Lower c b) = []
+access_of (Forward c b) = []

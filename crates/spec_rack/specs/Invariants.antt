@@ -6,18 +6,18 @@ use Rattle.spec_base.specs.Number.{Bytes}
 use Rattle.spec_wire.specs.declared.Step.{Step}
 use Rattle.spec_wire.specs.declared.Step.TheVariants.{Load, Store}
 use Rattle.spec_wire.specs.declared.Reading.TheVariants.{Step as Read}
-use Rattle.spec_wire.specs.Reader.{readRecord}
+use Rattle.spec_wire.specs.Reader.{read_record}
 use Rattle.spec_rack.specs.declared.Answer.{Answer}
 use Rattle.spec_rack.specs.declared.Answer.TheVariants.{Done}
 use Rattle.spec_rack.specs.declared.Reply.{Reply}
 use Rattle.spec_rack.specs.declared.Reply.TheVariants.{Accepted}
-use Rattle.spec_rack.specs.Rack.{Rack, cell_at, messageAt, carried, inFlight}
+use Rattle.spec_rack.specs.Rack.{Rack, cell_at, message_at, carried, in_flight}
 use Rattle.spec_rack.specs.Rules.{accepted, opening}
-use Rattle.spec_rack.specs.FlatMemory.{Memory, blank, memoryAfter}
+use Rattle.spec_rack.specs.FlatMemory.{Memory, blank, memory_after}
 use Rattle.spec_rack.specs.RecordLayout.{get}
-use Rattle.spec_rack.specs.Opening.{openReply, openAfter}
-use Rattle.spec_rack.specs.Entries.{stepReply}
-use Rattle.spec_rack.specs.Lists.{ruledReply, run, rackAccesses, after, accesses}
+use Rattle.spec_rack.specs.Opening.{open_reply, open_after}
+use Rattle.spec_rack.specs.Entries.{step_reply}
+use Rattle.spec_rack.specs.Lists.{ruled_reply, run, rack_accesses, after, accesses}
 use Rattle.spec_rack.specs.Coherence.{Counts}
 
 -- ---- single writer, multiple readers
@@ -28,8 +28,8 @@ module _ {S I : Type 0} (reply : S → I → Reply) (is : I → Step → Type 0)
   -- component c has block b to itself: no load of the block by another component would be accepted, and no store; and no token of it is in flight
   pub record Alone (s : S) (c b : ℕ) : Type 0 where
     pub no_reader : (x : I) (j w : ℕ) (a : Answer) → (j ≡ c → ⊥) → is x (Load j b w) → reply s x ≡ Accepted a → ⊥
-    pub no-writer : (x : I) (j w v : ℕ) (a : Answer) → (j ≡ c → ⊥) → is x (Store j b w v) → reply s x ≡ Accepted a → ⊥
-    pub none-in-flight : inFlight carried b (rackIn s).mesh ≡ 0
+    pub no_writer : (x : I) (j w v : ℕ) (a : Answer) → (j ≡ c → ⊥) → is x (Store j b w v) → reply s x ≡ Accepted a → ⊥
+    pub none_in_flight : in_flight carried b (rackIn s).mesh ≡ 0
 
   -- so it is wherever a store by c of a word of b would be accepted
   abbrev pub SingleWriter : S → Type 0
@@ -40,7 +40,7 @@ module _ {S I : Type 0} (reply : S → I → Reply) (is : I → Step → Type 0)
 -- every component that is valid for a block has the eight words that the memory has of it, and so has every message with data
 pub record Current (r : Rack) (mem : Memory) : Type 0 where
   pub component : (b c : ℕ) → (cell_at r b c).valid ≡ true → (cell_at r b c).words ≡ get_or mem b []
-  pub message : (i : ℕ) → (messageAt r i).header.«data» ≡ true → (messageAt r i).words ≡ get_or mem (messageAt r i).header.block []
+  pub message : (i : ℕ) → (message_at r i).header.«data» ≡ true → (message_at r i).words ≡ get_or mem (message_at r i).header.block []
 
 -- ---- of every list of steps from every opening; the flat memory is handed the accepted loads and stores of the list
 
@@ -48,10 +48,10 @@ abbrev pub OfSteps : (ℕ → ℕ → ℕ → Rack → List Step → Type 0) →
 OfSteps Holds = (n b t : ℕ) (r : Rack) (steps : List Step) → opening n b t ≡ accepted Done r → Holds n b t r steps
 
 abbrev pub SingleWriterMultipleReaders : Type 0
-SingleWriterMultipleReaders = OfSteps (λ n b t r steps. SingleWriter ruledReply (λ x y. x ≡ y) (λ rack. rack) (run r steps))
+SingleWriterMultipleReaders = OfSteps (λ n b t r steps. SingleWriter ruled_reply (λ x y. x ≡ y) (λ rack. rack) (run r steps))
 
 abbrev pub DataValue : Type 0
-DataValue = OfSteps (λ n b t r steps. Current (run r steps) (memoryAfter (blank b) (rackAccesses r steps)))
+DataValue = OfSteps (λ n b t r steps. Current (run r steps) (memory_after (blank b) (rack_accesses r steps)))
 
 -- of each block T tokens, one of them the owner, in components and mesh
 abbrev pub TokenConservation : Type 0
@@ -60,14 +60,14 @@ TokenConservation = OfSteps (λ n b t r steps. Counts n b t (run r steps))
 -- ---- and of every list of byte strings, torn and refused ones among them, from every opening that is accepted, in every buffer
 
 abbrev pub OfBytes : (ℕ → ℕ → ℕ → List ℕ → List (List ℕ) → Type 0) → Type 0
-OfBytes Holds = (n b t : ℕ) (s : List ℕ) (steps : List (List ℕ)) → Bytes s → openReply n b t s ≡ Accepted Done → Holds n b t (openAfter n b t s) steps
+OfBytes Holds = (n b t : ℕ) (s : List ℕ) (steps : List (List ℕ)) → Bytes s → open_reply n b t s ≡ Accepted Done → Holds n b t (open_after n b t s) steps
 
 -- the store that would be accepted, and the loads and stores that would not, are given as bytes too
 abbrev pub SingleWriterMultipleReadersBytes : Type 0
-SingleWriterMultipleReadersBytes = OfBytes (λ n b t s steps. SingleWriter stepReply (λ bytes step. readRecord bytes ≡ Read step) get (after s steps))
+SingleWriterMultipleReadersBytes = OfBytes (λ n b t s steps. SingleWriter step_reply (λ bytes step. read_record bytes ≡ Read step) get (after s steps))
 
 abbrev pub DataValueBytes : Type 0
-DataValueBytes = OfBytes (λ n b t s steps. Current (get (after s steps)) (memoryAfter (blank b) (accesses s steps)))
+DataValueBytes = OfBytes (λ n b t s steps. Current (get (after s steps)) (memory_after (blank b) (accesses s steps)))
 
 abbrev pub TokenConservationBytes : Type 0
 TokenConservationBytes = OfBytes (λ n b t s steps. Counts n b t (get (after s steps)))

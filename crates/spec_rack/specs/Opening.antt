@@ -6,21 +6,21 @@ use Rattle.spec_wire.specs.declared.Check.TheVariants.{Pass, Refuse}
 use Rattle.spec_wire.specs.Refusals.{when◌refuse◌else◌}
 use Rattle.spec_rack.specs.declared.Reply.{Reply}
 use Rattle.spec_rack.specs.Rack.{fresh}
-use Rattle.spec_rack.specs.Rules.{openingThen, replyOf}
-use Rattle.spec_rack.specs.RecordLayout.{recordLength, put}
+use Rattle.spec_rack.specs.Rules.{opening_then, reply_of}
+use Rattle.spec_rack.specs.RecordLayout.{record_length, put}
 
 -- in a buffer of l bytes
-unfoldable pub openCheck : ℕ → ℕ → ℕ → ℕ → Check
-openCheck n b t l = openingThen n b t (when ltb l (recordLength b) refuse ShortBuffer else Pass)
+unfoldable pub open_check : ℕ → ℕ → ℕ → ℕ → Check
+open_check n b t l = opening_then n b t (when ltb l (record_length b) refuse ShortBuffer else Pass)
 
 -- a refused opening leaves the buffer; an accepted one writes the fresh rack
-abbrev pub bufferOpened : Check → ℕ → ℕ → ℕ → List ℕ → List ℕ
-bufferOpened Pass n b t s = put (fresh n b t) s
-bufferOpened (Refuse r) n b t s = s
+abbrev pub buffer_opened : Check → ℕ → ℕ → ℕ → List ℕ → List ℕ
+buffer_opened Pass n b t s = put (fresh n b t) s
+buffer_opened (Refuse r) n b t s = s
 
 -- the reply, and the buffer afterwards
-unfoldable pub openReply : ℕ → ℕ → ℕ → List ℕ → Reply
-openReply n b t s = replyOf (openCheck n b t (length s))
+unfoldable pub open_reply : ℕ → ℕ → ℕ → List ℕ → Reply
+open_reply n b t s = reply_of (open_check n b t (length s))
 
-unfoldable pub openAfter : ℕ → ℕ → ℕ → List ℕ → List ℕ
-openAfter n b t s = bufferOpened (openCheck n b t (length s)) n b t s
+unfoldable pub open_after : ℕ → ℕ → ℕ → List ℕ → List ℕ
+open_after n b t s = buffer_opened (open_check n b t (length s)) n b t s

@@ -2,23 +2,23 @@
 use mathlib.Core.Path.{refl}
 use lib.Seq.{take_at, take_all}
 use Rattle.spec_wire.specs.Refusals.{when◌refuse◌else◌}
-use Rattle.spec_wire.specs.Kinds.{kind_of, fieldArray}
-use Rattle.spec_wire.specs.StepRecord.{fieldBytes, recordBytes, stepBytes}
-use Rattle.spec_wire.specs.Reader.{hasHeader, read_body, readRecord}
-use Rattle.spec_wire.specs.Frames.{frameSize, frames}
-use Rattle.spec_arbiter.specs.Boards.{bit, member, insert, remove, firstFrom, lowest}
-use Rattle.spec_arbiter.specs.Claims.{raiseCheck, raised, lowerCheck, lowered}
-use Rattle.spec_rack.specs.Rack.{meshLimit}
-use Rattle.spec_rack.specs.Rules.{check, after, answer, rules, openingCheck, opening, stored, sent, delivered, forwarded}
-use Rattle.spec_rack.specs.Letter.{letterCheck, letter}
-use Rattle.spec_rack.specs.Lists.{runAll, repliesOf}
-use Rattle.spec_rack.specs.Opening.{openCheck, openReply, openAfter}
-use Rattle.spec_rackrun.specs.Rackrun.{decimal, digits, replyText, line, lines, openingReply, openingAfter, text}
-use Rattle.spec_rackrun.specs.RuledText.{ruledText}
+use Rattle.spec_wire.specs.Kinds.{kind_of, field_array}
+use Rattle.spec_wire.specs.StepRecord.{field_bytes, record_bytes, step_bytes}
+use Rattle.spec_wire.specs.Reader.{has_header, read_body, read_record}
+use Rattle.spec_wire.specs.Frames.{frame_size, frames}
+use Rattle.spec_arbiter.specs.Boards.{bit, member, insert, remove, first_from, lowest}
+use Rattle.spec_arbiter.specs.Claims.{raise_check, raised, lower_check, lowered}
+use Rattle.spec_rack.specs.Rack.{mesh_limit}
+use Rattle.spec_rack.specs.Rules.{check, after, answer, rules, opening_check, opening, stored, sent, delivered, forwarded}
+use Rattle.spec_rack.specs.Letter.{letter_check, letter}
+use Rattle.spec_rack.specs.Lists.{run_all, replies_of}
+use Rattle.spec_rack.specs.Opening.{open_check, open_reply, open_after}
+use Rattle.spec_rackrun.specs.Rackrun.{decimal, digits, reply_text, line, lines, opening_reply, opening_after, text}
+use Rattle.spec_rackrun.specs.RuledText.{ruled_text}
 use Rattle.spec_rackrun.specs.Printed.{Printed}
 
 pub printed : Printed
-unfolding runAll when◌refuse◌else◌ check after answer rules letterCheck letter meshLimit stored sent delivered forwarded raiseCheck raised lowerCheck lowered bit member insert remove firstFrom lowest opening openingCheck repliesOf ruledText lines stepBytes fieldBytes recordBytes fieldArray frameSize frames readRecord read_body hasHeader kind_of decimal digits replyText line text openingReply openCheck openReply openAfter openingAfter
+unfolding run_all when◌refuse◌else◌ check after answer rules letter_check letter mesh_limit stored sent delivered forwarded raise_check raised lower_check lowered bit member insert remove first_from lowest opening opening_check replies_of ruled_text lines step_bytes field_bytes record_bytes field_array frame_size frames read_record read_body has_header kind_of decimal digits reply_text line text opening_reply open_check open_reply open_after opening_after
 printed =
     record {
       characters = refl;
@@ -28,14 +28,14 @@ printed =
       refusal = refl;
       longest = refl;
       served = refl;
-      served-largest = refl;
+      served_largest = refl;
       used = λ front rest l. take_at front rest _ l;
       used_all = λ input l. take_all _ input l;
-      under-three = refl;
-      bad-sizes = refl;
+      under_three = refl;
+      bad_sizes = refl;
       example = refl;
       whom = refl;
-      home-loads = refl;
-      bare-home = refl;
-      torn-ones = refl;
+      home_loads = refl;
+      bare_home = refl;
+      torn_ones = refl;
     }

@@ -4,15 +4,15 @@ use Rattle.spec_base.specs.Number.{Bytes}
 use Rattle.spec_wire.specs.declared.Refusal.TheVariants.{Torn}
 use Rattle.spec_wire.specs.declared.Reading.{Reading}
 use Rattle.spec_wire.specs.declared.Reading.TheVariants.{Step, Refused}
-use Rattle.spec_wire.specs.Reader.{readRecord}
+use Rattle.spec_wire.specs.Reader.{read_record}
 use Rattle.spec_wire.specs.Frames.{frames}
 use Rattle.spec_rack.specs.declared.Reply.{Reply}
 use Rattle.spec_rack.specs.Rack.{Rack}
-use Rattle.spec_rack.specs.Rules.{Outcome, refused, accepted, rules, opening, rackAfter, reply}
-use Rattle.spec_rack.specs.RecordLayout.{longestRecord}
-use Rattle.spec_rack.specs.Opening.{openReply}
-use Rattle.spec_rack.specs.Lists.{repliesOf}
-use Rattle.spec_rackrun.specs.Rackrun.{line, lines, usedInput, text}
+use Rattle.spec_rack.specs.Rules.{Outcome, refused, accepted, rules, opening, rack_after, reply}
+use Rattle.spec_rack.specs.RecordLayout.{longest_record}
+use Rattle.spec_rack.specs.Opening.{open_reply}
+use Rattle.spec_rack.specs.Lists.{replies_of}
+use Rattle.spec_rackrun.specs.Rackrun.{line, lines, used_input, text}
 
 -- what was read, given to a rack: what is no step is refused
 abbrev pub ruled : Rack → Reading → Outcome
@@ -20,27 +20,27 @@ ruled r (Step t) = rules r t
 ruled r (Refused n) = refused n
 
 -- the replies to byte strings, one after the other
-abbrev pub ruledReplies : Rack → List (List ℕ) → List Reply
-ruledReplies r bs = repliesOf (λ q b. rackAfter q (ruled q (readRecord b))) (λ q b. reply (ruled q (readRecord b))) r bs
+abbrev pub ruled_replies : Rack → List (List ℕ) → List Reply
+ruled_replies r bs = replies_of (λ q b. rack_after q (ruled q (read_record b))) (λ q b. reply (ruled q (read_record b))) r bs
 
 -- the lines of the steps behind an opening
-abbrev pub ruledLines : Outcome → List ℕ → List ℕ
-ruledLines (refused n) list = []
-ruledLines (accepted a r) list = lines 1 (ruledReplies r (frames 65536 list))
+abbrev pub ruled_lines : Outcome → List ℕ → List ℕ
+ruled_lines (refused n) list = []
+ruled_lines (accepted a r) list = lines 1 (ruled_replies r (frames 65536 list))
 
 -- the opening with N, B and T, the first three bytes
-abbrev pub ruledOpening : List ℕ → Outcome
-ruledOpening u = cond (ltb (length u) 3) (refused Torn) (opening (get_or u 0 0) (get_or u 1 0) (get_or u 2 0))
+abbrev pub ruled_opening : List ℕ → Outcome
+ruled_opening u = cond (ltb (length u) 3) (refused Torn) (opening (get_or u 0 0) (get_or u 1 0) (get_or u 2 0))
 
-unfoldable pub ruledText : List ℕ → List ℕ
-ruledText input =
-    let u = usedInput input in
-    line 0 (reply (ruledOpening u)) ++ ruledLines (ruledOpening u) (drop 3 u)
+unfoldable pub ruled_text : List ℕ → List ℕ
+ruled_text input =
+    let u = used_input input in
+    line 0 (reply (ruled_opening u)) ++ ruled_lines (ruled_opening u) (drop 3 u)
 
 -- In a buffer with room for the longest record an opening is answered by N, B and T alone: done or 19, never 20.
 abbrev pub OpeningBySizes : Type 0
-OpeningBySizes = (n b t : ℕ) (s : List ℕ) → longestRecord ≤ length s → openReply n b t s ≡ reply (opening n b t)
+OpeningBySizes = (n b t : ℕ) (s : List ℕ) → longest_record ≤ length s → open_reply n b t s ≡ reply (opening n b t)
 
 -- So the text is that of the rules, for every input and whatever the buffer held.
 abbrev pub TextByRules : Type 0
-TextByRules = (s input : List ℕ) → Bytes s → longestRecord ≤ length s → text s input ≡ ruledText input
+TextByRules = (s input : List ℕ) → Bytes s → longest_record ≤ length s → text s input ≡ ruled_text input

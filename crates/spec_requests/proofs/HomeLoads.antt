@@ -10,7 +10,7 @@ use borrow.Author.Tests.{ne_eqb, le-ltb}
 use lib.ListN.{get_or}
 use lib.Dec.{eqb}
 use Rattle.spec_base.specs.Number.{Bytes}
-use Rattle.spec_base.proofs.Tests.{differs, either, or-none}
+use Rattle.spec_base.proofs.Tests.{differs, either, or_none}
 use Rattle.spec_wire.specs.declared.Refusal.{Refusal}
 use Rattle.spec_wire.specs.declared.Refusal.TheVariants.{Unsound, OffRack, Home, NoToken, NoData}
 use Rattle.spec_wire.specs.declared.Check.{Check}
@@ -20,26 +20,26 @@ use Rattle.spec_wire.specs.declared.Step.{Step}
 use Rattle.spec_wire.specs.declared.Step.TheVariants.{Load, Store, Send, Deliver, Raise, Lower, Forward}
 use Rattle.spec_wire.specs.declared.Reading.{Reading}
 use Rattle.spec_wire.specs.declared.Reading.TheVariants.{Step as Read, Refused as NoStep}
-use Rattle.spec_wire.specs.Reader.{readRecord}
+use Rattle.spec_wire.specs.Reader.{read_record}
 use Rattle.spec_rack.specs.declared.Answer.{Answer}
 use Rattle.spec_rack.specs.declared.Answer.TheVariants.{Word}
 use Rattle.spec_rack.specs.declared.Reply.{Reply}
 use Rattle.spec_rack.specs.declared.Reply.TheVariants.{Accepted, Refused}
 use Rattle.spec_rack.specs.Rack.{Cell, Rack, cell_at, held}
-use Rattle.spec_rack.specs.Rules.{Outcome, refused, settled, check, after, answer, rules, offRack, pastWords, reply, rackAfter}
-use Rattle.spec_rack.specs.Letter.{letterCheck, letterOf, lettered, letter}
+use Rattle.spec_rack.specs.Rules.{Outcome, refused, settled, check, after, answer, rules, off_rack, past_words, reply, rack_after}
+use Rattle.spec_rack.specs.Letter.{letter_check, letter_of, lettered, letter}
 use Rattle.spec_rack.specs.RecordLayout.{get, put}
-use Rattle.spec_rack.specs.Soundness.{soundBytes}
-use Rattle.spec_rack.specs.Entries.{bufferAfterOutcome, outcomeBy, stepReply, stepAfter}
-use Rattle.spec_rack.specs.Lists.{runAll, ruledReply, ruledAfter}
-use Rattle.spec_requests.specs.HomeLoads.{loadCheckBefore, rulesBefore, ruledReplyBefore, ruledAfterBefore, stepReplyBefore, stepAfterBefore, isHomeLoad, isHomeLoadIn, OrdinaryLoad, ValidLoads, SameList, SameOnRacks, SameOnBytes, StillRefused}
-use Rattle.spec_rack.proofs.SoundnessFacts.{sound-facts}
-use Rattle.spec_rack.proofs.BlockInvariant.{cell-sound}
-use Rattle.spec_rack.proofs.StepPreservation.{inN, in_b}
-use Rattle.spec_rack.proofs.GetPut.{put-get}
+use Rattle.spec_rack.specs.Soundness.{sound_bytes}
+use Rattle.spec_rack.specs.Entries.{buffer_after_outcome, outcome_by, step_reply, step_after}
+use Rattle.spec_rack.specs.Lists.{run_all, ruled_reply, ruled_after}
+use Rattle.spec_requests.specs.HomeLoads.{load_check_before, rules_before, ruled_reply_before, ruled_after_before, step_reply_before, step_after_before, is_home_load, is_home_load_in, OrdinaryLoad, ValidLoads, SameList, SameOnRacks, SameOnBytes, StillRefused}
+use Rattle.spec_rack.proofs.SoundnessFacts.{sound_facts}
+use Rattle.spec_rack.proofs.BlockInvariant.{cell_sound}
+use Rattle.spec_rack.proofs.StepPreservation.{in_n, in_b}
+use Rattle.spec_rack.proofs.GetPut.{put_get}
 use Rattle.spec_rack.proofs.SoundRecord.{live_of}
 use Rattle.spec_rack.proofs.ByteLists.{runs}
-use Rattle.spec_rack.proofs.Effects.{every-unsound}
+use Rattle.spec_rack.proofs.Effects.{every_unsound}
 
 -- ---- one load, with the line of home and without it
 
@@ -48,22 +48,22 @@ word x w = Word (get_or x.words w 0)
 
 -- what is said of both, where `rest` has the lines below
 module _ (rest : Check) (a : Answer) (r : Rack) where
-  still-accepted : (off home : Bool) (a' : Answer)
+  still_accepted : (off home : Bool) (a' : Answer)
       → reply (settled (when off refuse OffRack else when home refuse Home else rest) a r) ≡ Accepted a'
       → reply (settled (when off refuse OffRack else rest) a r) ≡ Accepted a'
   unfolding when◌refuse◌else◌
-  still-accepted true home a' e = e
-  still-accepted false true a' e = cc
-  still-accepted false false a' e = e
+  still_accepted true home a' e = e
+  still_accepted false true a' e = cc
+  still_accepted false false a' e = e
 
-  same-away : (off home : Bool) → home ≡ false
+  same_away : (off home : Bool) → home ≡ false
       → settled (when off refuse OffRack else rest) a r ≡ settled (when off refuse OffRack else when home refuse Home else rest) a r
   unfolding when◌refuse◌else◌
-  same-away off true e = differs e
-  same-away off false e = refl
+  same_away off true e = differs e
+  same_away off false e = refl
 
 -- a load leaves the rack, whatever its lines say
-leaves : (k : Check) (a : Answer) (r : Rack) → rackAfter r (settled k a r) ≡ r
+leaves : (k : Check) (a : Answer) (r : Rack) → rack_after r (settled k a r) ≡ r
 leaves Pass a r = refl
 leaves (Refuse n) a r = refl
 
@@ -71,7 +71,7 @@ leaves (Refuse n) a r = refl
 
 -- what is true of a load's two outcomes, and of an outcome beside itself, is true of those of every step
 by_kind : (r : Rack) (P : Step → Outcome → Outcome → Type 0) → ((t : Step) (o : Outcome) → P t o o)
-    → ((c b w : ℕ) → P (Load c b w) (rules r (Load c b w)) (rulesBefore r (Load c b w))) → (t : Step) → P t (rules r t) (rulesBefore r t)
+    → ((c b w : ℕ) → P (Load c b w) (rules r (Load c b w)) (rules_before r (Load c b w))) → (t : Step) → P t (rules r t) (rules_before r t)
 by_kind r P same load (Load c b w) = load c b w
 by_kind r P same load (Store c b w v) = same (Store c b w v) _
 by_kind r P same load (Send c b t p o d) = same (Send c b t p o d) _
@@ -80,150 +80,150 @@ by_kind r P same load (Raise c b) = same (Raise c b) _
 by_kind r P same load (Lower c b) = same (Lower c b) _
 by_kind r P same load (Forward c b) = same (Forward c b) _
 
-step_left : (r : Rack) (t : Step) → ruledAfter r t ≡ ruledAfterBefore r t
+step_left : (r : Rack) (t : Step) → ruled_after r t ≡ ruled_after_before r t
 unfolding rules after
 step_left r =
-    by_kind r (λ _ o o'. rackAfter r o ≡ rackAfter r o') (λ _ o. refl)
-    (λ c b w. leaves (check r (Load c b w)) (answer r (Load c b w)) r ∙ sym (leaves (loadCheckBefore r c b w) (word (cell_at r b c) w) r))
+    by_kind r (λ _ o o'. rack_after r o ≡ rack_after r o') (λ _ o. refl)
+    (λ c b w. leaves (check r (Load c b w)) (answer r (Load c b w)) r ∙ sym (leaves (load_check_before r c b w) (word (cell_at r b c) w) r))
 
-step-answered : (r : Rack) (t : Step) (a : Answer) → ruledReplyBefore r t ≡ Accepted a → ruledReply r t ≡ Accepted a
+step_answered : (r : Rack) (t : Step) (a : Answer) → ruled_reply_before r t ≡ Accepted a → ruled_reply r t ≡ Accepted a
 unfolding rules check after answer
-step-answered r =
+step_answered r =
     by_kind r (λ _ o o'. (a : Answer) → reply o' ≡ Accepted a → reply o ≡ Accepted a) (λ _ o a e. e)
-    (λ c b w. still-accepted _ (word (cell_at r b c) w) r (offRack r c b || pastWords w) (eqb c 0))
+    (λ c b w. still_accepted _ (word (cell_at r b c) w) r (off_rack r c b || past_words w) (eqb c 0))
 
-step_other : (r : Rack) (t : Step) → isHomeLoad t ≡ false → rules r t ≡ rulesBefore r t
+step_other : (r : Rack) (t : Step) → is_home_load t ≡ false → rules r t ≡ rules_before r t
 unfolding rules check after answer
 step_other r =
-    by_kind r (λ t o o'. isHomeLoad t ≡ false → o ≡ o') (λ _ o _. refl)
-    (λ c b w. same-away _ (word (cell_at r b c) w) r (offRack r c b || pastWords w) (eqb c 0))
+    by_kind r (λ t o o'. is_home_load t ≡ false → o ≡ o') (λ _ o _. refl)
+    (λ c b w. same_away _ (word (cell_at r b c) w) r (off_rack r c b || past_words w) (eqb c 0))
 
 -- ---- a load at home, by the ordinary rule
 
 -- the lines of a load, by whether it is off the rack and by its cell
 abbrev lines : Bool → Cell → ℕ → Check
-lines off x w = when off || pastWords w refuse OffRack else when eqb (held x) 0 refuse NoToken else when not x.valid refuse NoData else Pass
+lines off x w = when off || past_words w refuse OffRack else when eqb (held x) 0 refuse NoToken else when not x.valid refuse NoData else Pass
 
 -- a reply does not tell the rack that is left
-pub any-rack : (k : Check) (a : Answer) (r r' : Rack) → reply (settled k a r) ≡ reply (settled k a r')
-any-rack Pass a r r' = refl
-any-rack (Refuse n) a r r' = refl
+pub any_rack : (k : Check) (a : Answer) (r r' : Rack) → reply (settled k a r) ≡ reply (settled k a r')
+any_rack Pass a r r' = refl
+any_rack (Refuse n) a r r' = refl
 
-pub ordinary-load : OrdinaryLoad
+pub ordinary_load : OrdinaryLoad
 unfolding rules check answer after
-ordinary-load r r' b b' c w board off same =
+ordinary_load r r' b b' c w board off same =
     (λ i. reply (settled (lines (off i) (same i) w) (word (same i) w) r))
-    ∙ any-rack (lines (offRack r' c b') (cell_at r' b' c) w) (word (cell_at r' b' c) w) r r'
+    ∙ any_rack (lines (off_rack r' c b') (cell_at r' b' c) w) (word (cell_at r' b' c) w) r r'
     ∙ ap reply (step_other r' (Load c b' w) (ne_eqb c 0 board))
 
 -- ---- by the valid mark, which is only where a token is held
 
-by-valid : (r : Rack) (a : Answer) (off none valid : Bool) → off ≡ false → (valid ≡ true → none ≡ false)
+by_valid : (r : Rack) (a : Answer) (off none valid : Bool) → off ≡ false → (valid ≡ true → none ≡ false)
     → reply (settled (when off refuse OffRack else when none refuse NoToken else when not valid refuse NoData else Pass) a r)
     ≡ cond valid (Accepted a) (Refused (cond none NoToken NoData))
 unfolding when◌refuse◌else◌
-by-valid r a true none valid on token = differs on
-by-valid r a false true true on token = differs (token refl)
-by-valid r a false true false on token = refl
-by-valid r a false false true on token = refl
-by-valid r a false false false on token = refl
+by_valid r a true none valid on token = differs on
+by_valid r a false true true on token = differs (token refl)
+by_valid r a false true false on token = refl
+by_valid r a false false true on token = refl
+by_valid r a false false false on token = refl
 
-pub valid-loads : ValidLoads
+pub valid_loads : ValidLoads
 unfolding rules check answer after
-valid-loads r c b w ok on low =
-    let s = sound-facts r ok in
-    by-valid r _ _ (eqb (held (cell_at r b c)) 0) (cell_at r b c).valid (or-none _ _ on (le-ltb 7 w (omega arith)))
+valid_loads r c b w ok on low =
+    let s = sound_facts r ok in
+    by_valid r _ _ (eqb (held (cell_at r b c)) 0) (cell_at r b c).valid (or_none _ _ on (le-ltb 7 w (omega arith)))
     (λ valid.
     ne_eqb _ 0
     (λ (none : held (cell_at r b c) ≡ 0).
-    let some : 0 < held (cell_at r b c) = (cell-sound r s b c (in_b r s c b on) (inN r s c b on)).token valid in absurd (omega arith)))
+    let some : 0 < held (cell_at r b c) = (cell_sound r s b c (in_b r s c b on) (in_n r s c b on)).token valid in absurd (omega arith)))
 
 -- ---- from one item to lists
 
-module _ {S I : Type 0} (after afterBefore : S → I → S) (reply replyBefore : S → I → Reply) (homeLoad : I → Bool)
+module _ {S I : Type 0} (after afterBefore : S → I → S) (reply reply_before : S → I → Reply) (homeLoad : I → Bool)
     (P : S → Type 0) (kept : (s : S) (x : I) → P s → P (after s x))
     (left : (s : S) (x : I) → P s → after s x ≡ afterBefore s x)
-    (answered : (s : S) (x : I) (a : Answer) → replyBefore s x ≡ Accepted a → reply s x ≡ Accepted a)
-    (other : (s : S) (x : I) → homeLoad x ≡ false → reply s x ≡ replyBefore s x) where
-  same-list : (items : List I) (s : S) → P s → SameList after afterBefore reply replyBefore homeLoad s items
-  unfolding runAll
-  same-list [] s ok = record { state = refl; answered = answered s; others = other s }
-  same-list (x ∷ xs) s ok =
-      let rest = same-list xs (after s x) (kept s x ok) in
+    (answered : (s : S) (x : I) (a : Answer) → reply_before s x ≡ Accepted a → reply s x ≡ Accepted a)
+    (other : (s : S) (x : I) → homeLoad x ≡ false → reply s x ≡ reply_before s x) where
+  same_list : (items : List I) (s : S) → P s → SameList after afterBefore reply reply_before homeLoad s items
+  unfolding run_all
+  same_list [] s ok = record { state = refl; answered = answered s; others = other s }
+  same_list (x ∷ xs) s ok =
+      let rest = same_list xs (after s x) (kept s x ok) in
       let same = left s x ok in
       record {
-        state = rest.state ∙ ap (λ (q : S). runAll afterBefore q xs) same;
-        answered = λ y a e. rest.answered y a (subst (λ (q : S). replyBefore (runAll afterBefore q xs) y ≡ Accepted a) (sym same) e);
-        others = λ y e. rest.others y e ∙ ap (λ (q : S). replyBefore (runAll afterBefore q xs) y) same;
+        state = rest.state ∙ ap (λ (q : S). run_all afterBefore q xs) same;
+        answered = λ y a e. rest.answered y a (subst (λ (q : S). reply_before (run_all afterBefore q xs) y ≡ Accepted a) (sym same) e);
+        others = λ y e. rest.others y e ∙ ap (λ (q : S). reply_before (run_all afterBefore q xs) y) same;
       }
 
-pub same-on-racks : SameOnRacks
-same-on-racks r ss =
-    same-list ruledAfter ruledAfterBefore ruledReply ruledReplyBefore isHomeLoad (λ _. Unit {0}) (λ _ _ _. tt) (λ q s _. step_left q s) step-answered
+pub same_on_racks : SameOnRacks
+same_on_racks r ss =
+    same_list ruled_after ruled_after_before ruled_reply ruled_reply_before is_home_load (λ _. Unit {0}) (λ _ _ _. tt) (λ q s _. step_left q s) step_answered
     (λ q s e. ap reply (step_other q s e)) ss r tt
 
 -- ---- byte strings
 
 -- to write the rack that is there changes nothing
-writes_nothing : (s : List ℕ) → put (get s) s ≡ s → (k : Check) (a : Answer) → bufferAfterOutcome s (settled k a (get s)) ≡ s
+writes_nothing : (s : List ℕ) → put (get s) s ≡ s → (k : Check) (a : Answer) → buffer_after_outcome s (settled k a (get s)) ≡ s
 writes_nothing s same Pass a = same
 writes_nothing s same (Refuse n) a = refl
 
 module _ (s : List ℕ) where
-  step-writes : put (get s) s ≡ s → (t : Step) → bufferAfterOutcome s (rules (get s) t) ≡ bufferAfterOutcome s (rulesBefore (get s) t)
+  step_writes : put (get s) s ≡ s → (t : Step) → buffer_after_outcome s (rules (get s) t) ≡ buffer_after_outcome s (rules_before (get s) t)
   unfolding rules after
-  step-writes same =
-      by_kind (get s) (λ _ o o'. bufferAfterOutcome s o ≡ bufferAfterOutcome s o') (λ _ o. refl)
+  step_writes same =
+      by_kind (get s) (λ _ o o'. buffer_after_outcome s o ≡ buffer_after_outcome s o') (λ _ o. refl)
       (λ c b w.
       writes_nothing s same (check (get s) (Load c b w)) (answer (get s) (Load c b w))
-      ∙ sym (writes_nothing s same (loadCheckBefore (get s) c b w) (word (cell_at (get s) b c) w)))
+      ∙ sym (writes_nothing s same (load_check_before (get s) c b w) (word (cell_at (get s) b c) w)))
 
-  by-reading : (k : Reading) → (soundBytes s ≡ true → put (get s) s ≡ s)
-      → bufferAfterOutcome s (outcomeBy rules k s) ≡ bufferAfterOutcome s (outcomeBy rulesBefore k s)
-  by-reading (NoStep n) same = refl
-  by-reading (Read t) same = go (soundBytes s) refl
+  by_reading : (k : Reading) → (sound_bytes s ≡ true → put (get s) s ≡ s)
+      → buffer_after_outcome s (outcome_by rules k s) ≡ buffer_after_outcome s (outcome_by rules_before k s)
+  by_reading (NoStep n) same = refl
+  by_reading (Read t) same = go (sound_bytes s) refl
     where
-      go : (u : Bool) → soundBytes s ≡ u
-          → bufferAfterOutcome s (cond u (rules (get s) t) (refused Unsound)) ≡ bufferAfterOutcome s (cond u (rulesBefore (get s) t) (refused Unsound))
-      go true e = step-writes (same e) t
+      go : (u : Bool) → sound_bytes s ≡ u
+          → buffer_after_outcome s (cond u (rules (get s) t) (refused Unsound)) ≡ buffer_after_outcome s (cond u (rules_before (get s) t) (refused Unsound))
+      go true e = step_writes (same e) t
       go false e = refl
 
-  reading-answered : (k : Reading) (a : Answer) → reply (outcomeBy rulesBefore k s) ≡ Accepted a → reply (outcomeBy rules k s) ≡ Accepted a
-  reading-answered (NoStep n) a e = e
-  reading-answered (Read t) a e = go (soundBytes s) e
+  reading_answered : (k : Reading) (a : Answer) → reply (outcome_by rules_before k s) ≡ Accepted a → reply (outcome_by rules k s) ≡ Accepted a
+  reading_answered (NoStep n) a e = e
+  reading_answered (Read t) a e = go (sound_bytes s) e
     where
-      go : (u : Bool) → reply (cond u (rulesBefore (get s) t) (refused Unsound)) ≡ Accepted a → reply (cond u (rules (get s) t) (refused Unsound)) ≡ Accepted a
-      go true e = step-answered (get s) t a e
+      go : (u : Bool) → reply (cond u (rules_before (get s) t) (refused Unsound)) ≡ Accepted a → reply (cond u (rules (get s) t) (refused Unsound)) ≡ Accepted a
+      go true e = step_answered (get s) t a e
       go false e = e
 
-  reading-other : (k : Reading) → isHomeLoadIn k ≡ false → reply (outcomeBy rules k s) ≡ reply (outcomeBy rulesBefore k s)
-  reading-other (NoStep n) e = refl
-  reading-other (Read t) e = ap (λ (o : Outcome). reply (cond (soundBytes s) o (refused Unsound))) (step_other (get s) t e)
+  reading_other : (k : Reading) → is_home_load_in k ≡ false → reply (outcome_by rules k s) ≡ reply (outcome_by rules_before k s)
+  reading_other (NoStep n) e = refl
+  reading_other (Read t) e = ap (λ (o : Outcome). reply (cond (sound_bytes s) o (refused Unsound))) (step_other (get s) t e)
 
-bytes_left : (s bytes : List ℕ) → Bytes s → stepAfter s bytes ≡ stepAfterBefore s bytes
-unfolding stepAfter
-bytes_left s bytes ok = by-reading s (readRecord bytes) (λ sound. put-get s (live_of s ok sound).wellFormed)
+bytes_left : (s bytes : List ℕ) → Bytes s → step_after s bytes ≡ step_after_before s bytes
+unfolding step_after
+bytes_left s bytes ok = by_reading s (read_record bytes) (λ sound. put_get s (live_of s ok sound).well_formed)
 
-bytes-answered : (s bytes : List ℕ) (a : Answer) → stepReplyBefore s bytes ≡ Accepted a → stepReply s bytes ≡ Accepted a
-unfolding stepReply
-bytes-answered s bytes a = reading-answered s (readRecord bytes) a
+bytes_answered : (s bytes : List ℕ) (a : Answer) → step_reply_before s bytes ≡ Accepted a → step_reply s bytes ≡ Accepted a
+unfolding step_reply
+bytes_answered s bytes a = reading_answered s (read_record bytes) a
 
-bytes-other : (s bytes : List ℕ) → isHomeLoadIn (readRecord bytes) ≡ false → stepReply s bytes ≡ stepReplyBefore s bytes
-unfolding stepReply
-bytes-other s bytes = reading-other s (readRecord bytes)
+bytes_other : (s bytes : List ℕ) → is_home_load_in (read_record bytes) ≡ false → step_reply s bytes ≡ step_reply_before s bytes
+unfolding step_reply
+bytes_other s bytes = reading_other s (read_record bytes)
 
 -- what a step leaves are bytes
-bytes-kept : (s bytes : List ℕ) → Bytes s → Bytes (stepAfter s bytes)
-unfolding runAll
-bytes-kept s bytes ok =
+bytes_kept : (s bytes : List ℕ) → Bytes s → Bytes (step_after s bytes)
+unfolding run_all
+bytes_kept s bytes ok =
     ⊎_elim
-    (λ (sound : soundBytes s ≡ true). (runs (bytes ∷ []) s (live_of s ok sound)).live.wellFormed.bytes)
-    (λ (bad : soundBytes s ≡ false). subst Bytes (sym ((every-unsound s bad).step bytes).1) ok)
-    (either (soundBytes s))
+    (λ (sound : sound_bytes s ≡ true). (runs (bytes ∷ []) s (live_of s ok sound)).live.well_formed.bytes)
+    (λ (bad : sound_bytes s ≡ false). subst Bytes (sym ((every_unsound s bad).step bytes).1) ok)
+    (either (sound_bytes s))
 
-pub same-on-bytes : SameOnBytes
-same-on-bytes s steps ok =
-    same-list stepAfter stepAfterBefore stepReply stepReplyBefore (λ bytes. isHomeLoadIn (readRecord bytes)) Bytes bytes-kept bytes_left bytes-answered bytes-other
+pub same_on_bytes : SameOnBytes
+same_on_bytes s steps ok =
+    same_list step_after step_after_before step_reply step_reply_before (λ bytes. is_home_load_in (read_record bytes)) Bytes bytes_kept bytes_left bytes_answered bytes_other
     steps s ok
 
 -- ---- what home is still refused
@@ -235,16 +235,16 @@ at_home true rest = refl
 at_home false rest = refl
 
 -- a step whose check refuses it is refused
-refused-with : {n : Refusal} (r : Rack) (t : Step) → check r t ≡ Refuse n → ruledReply r t ≡ Refused n
+refused_with : {n : Refusal} (r : Rack) (t : Step) → check r t ≡ Refuse n → ruled_reply r t ≡ Refused n
 unfolding rules
-refused-with r t e = ap (λ (k : Check). reply (settled k (answer r t) (after r t))) e
+refused_with r t e = ap (λ (k : Check). reply (settled k (answer r t) (after r t))) e
 
-pub still-refused : StillRefused
-unfolding check letterCheck letter
-still-refused =
+pub still_refused : StillRefused
+unfolding check letter_check letter
+still_refused =
     record {
-      store = λ r b w v. refused-with r (Store 0 b w v) (at_home (offRack r 0 b || pastWords w) _);
-      raise = λ r b. refused-with r (Raise 0 b) (at_home (offRack r 0 b) _);
-      lower = λ r b. refused-with r (Lower 0 b) (at_home (offRack r 0 b) _);
-      letter-at-home = λ r b. ap (λ (k : Check). lettered k (letterOf r.tokens (cell_at r b 0))) (at_home (offRack r 0 b) _);
+      store = λ r b w v. refused_with r (Store 0 b w v) (at_home (off_rack r 0 b || past_words w) _);
+      raise = λ r b. refused_with r (Raise 0 b) (at_home (off_rack r 0 b) _);
+      lower = λ r b. refused_with r (Lower 0 b) (at_home (off_rack r 0 b) _);
+      letter_at_home = λ r b. ap (λ (k : Check). lettered k (letter_of r.tokens (cell_at r b 0))) (at_home (off_rack r 0 b) _);
     }

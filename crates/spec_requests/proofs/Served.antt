@@ -14,84 +14,84 @@ use Rattle.spec_wire.specs.declared.Step.{Step}
 use Rattle.spec_wire.specs.declared.Step.TheVariants.{Load, Store, Send, Deliver, Raise, Lower, Forward}
 use Rattle.spec_wire.specs.Refusals.{when◌refuse◌else◌}
 use Rattle.spec_wire.specs.declared.Reading.TheVariants.{Step as Read}
-use Rattle.spec_wire.specs.Reader.{readRecord}
-use Rattle.spec_base.specs.Folds.{removeAt}
+use Rattle.spec_wire.specs.Reader.{read_record}
+use Rattle.spec_base.specs.Folds.{remove_at}
 use Rattle.spec_rack.specs.declared.Answer.{Answer}
 use Rattle.spec_rack.specs.declared.Answer.TheVariants.{Done, Word, Served}
 use Rattle.spec_rack.specs.declared.Reply.TheVariants.{Accepted}
 use Rattle.spec_rack.specs.declared.Message.{Message}
-use Rattle.spec_rack.specs.Rack.{Cell, Rack, cell_at, messageAt, held}
-use Rattle.spec_rack.specs.Rules.{withTokens, delivered, pastMesh, accepted, settled, check, answer, after, rules, reply, replyOf}
+use Rattle.spec_rack.specs.Rack.{Cell, Rack, cell_at, message_at, held}
+use Rattle.spec_rack.specs.Rules.{with_tokens, delivered, past_mesh, accepted, settled, check, answer, after, rules, reply, reply_of}
 use Rattle.spec_rack.specs.RecordLayout.{get}
-use Rattle.spec_rack.specs.Soundness.{soundBytes}
-use Rattle.spec_rack.specs.Entries.{stepAfter}
-use Rattle.spec_rack.specs.Opening.{openCheck, openReply}
+use Rattle.spec_rack.specs.Soundness.{sound_bytes}
+use Rattle.spec_rack.specs.Entries.{step_after}
+use Rattle.spec_rack.specs.Opening.{open_check, open_reply}
 use Rattle.spec_rack.specs.Effects.{AcceptedAs}
-use Rattle.spec_rack.specs.Lists.{repliesOf, ruledAfter, rackReplies}
-use Rattle.spec_requests.specs.Served.{Serves, Names, SaysWhom, ServedBy, EveryServed, answerBefore, replyBefore, withoutServed, AsBefore}
-use Rattle.spec_rack.proofs.SoundnessFacts.{Sound, sound-facts}
-use Rattle.spec_rack.proofs.BlockInvariant.{message-sound, cell-after, cell-changed}
-use Rattle.spec_rack.proofs.TokenConservation.{delivered-held}
-use Rattle.spec_rack.proofs.SoundRecord.{rack-sound}
-use Rattle.spec_rack.proofs.Effects.{every-step}
+use Rattle.spec_rack.specs.Lists.{replies_of, ruled_after, rack_replies}
+use Rattle.spec_requests.specs.Served.{Serves, Names, SaysWhom, ServedBy, EveryServed, answer_before, reply_before, without_served, AsBefore}
+use Rattle.spec_rack.proofs.SoundnessFacts.{Sound, sound_facts}
+use Rattle.spec_rack.proofs.BlockInvariant.{message_sound, cell_after, cell_changed}
+use Rattle.spec_rack.proofs.TokenConservation.{delivered_held}
+use Rattle.spec_rack.proofs.SoundRecord.{rack_sound}
+use Rattle.spec_rack.proofs.Effects.{every_step}
 
 -- ---- whom it served
 
 module _ (r : Rack) (s : Sound r) (i : ℕ) (h : i < length r.mesh) where
   abbrev m : Message
-  m = messageAt r i
+  m = message_at r i
 
   abbrev at : ℕ
-  at = (messageAt r i).header.block
+  at = (message_at r i).header.block
 
   abbrev to : ℕ
-  to = (messageAt r i).header.target
+  to = (message_at r i).header.target
 
   abbrev x : Cell
-  x = withTokens (cell_at r at to) m
+  x = with_tokens (cell_at r at to) m
 
-  in_b : (messageAt r i).header.block < length r.blocks
-  in_b = (message-sound r s i h).block
+  in_b : (message_at r i).header.block < length r.blocks
+  in_b = (message_sound r s i h).block
 
-  inN : (messageAt r i).header.target ≤ r.boards
-  inN = (message-sound r s i h).target
+  in_n : (message_at r i).header.target ≤ r.boards
+  in_n = (message_sound r s i h).target
 
-  target-cell : cell_at (delivered r i) at to ≡ withTokens (cell_at r at to) m
+  target_cell : cell_at (delivered r i) at to ≡ with_tokens (cell_at r at to) m
   unfolding delivered
-  target-cell = cell-changed r s at to in_b inN x (removeAt r.mesh i)
+  target_cell = cell_changed r s at to in_b in_n x (remove_at r.mesh i)
 
-  other-cells : (j k : ℕ) → ((j ≡ at) × (k ≡ to) → ⊥) → cell_at (delivered r i) j k ≡ cell_at r j k
+  other_cells : (j k : ℕ) → ((j ≡ at) × (k ≡ to) → ⊥) → cell_at (delivered r i) j k ≡ cell_at r j k
   unfolding delivered
-  other-cells j k ne = cell-after r s at to in_b inN x (removeAt r.mesh i) j k (λ y. y ≡ cell_at r j k) (λ e f. absurd (ne (e, f))) (λ _. refl)
+  other_cells j k ne = cell_after r s at to in_b in_n x (remove_at r.mesh i) j k (λ y. y ≡ cell_at r j k) (λ e f. absurd (ne (e, f))) (λ _. refl)
 
-  serves : Serves r i (messageAt r i).header.target (messageAt r i).header.block (delivered r i)
-  serves = record { gains = ap held target-cell ∙ delivered-held r s i h; some = (message-sound r s i h).token; others = other-cells }
+  serves : Serves r i (message_at r i).header.target (message_at r i).header.block (delivered r i)
+  serves = record { gains = ap held target_cell ∙ delivered_held r s i h; some = (message_sound r s i h).token; others = other_cells }
 
 whom : (r : Rack) → Sound r → (i : ℕ) (a : Answer) (r' : Rack) → rules r (Deliver i) ≡ accepted a r' → Names r i a r'
 unfolding rules check answer after when◌refuse◌else◌
-whom r s i a r' = go (pastMesh r i) refl
+whom r s i a r' = go (past_mesh r i) refl
   where
-    go : (t : Bool) → pastMesh r i ≡ t
-        → settled (when t refuse NoMessage else Pass) (Served (messageAt r i).header.target (messageAt r i).header.block) (delivered r i) ≡ accepted a r'
+    go : (t : Bool) → past_mesh r i ≡ t
+        → settled (when t refuse NoMessage else Pass) (Served (message_at r i).header.target (message_at r i).header.block) (delivered r i) ≡ accepted a r'
         → Names r i a r'
     go true e q = let none : true ≡ false = cc in differs none
     go false e q =
         let left : delivered r i ≡ r' = cc in
         record {
-          component = (messageAt r i).header.target;
-          block = (messageAt r i).header.block;
+          component = (message_at r i).header.target;
+          block = (message_at r i).header.block;
           named = cc;
           serves =
-              subst (Serves r i (messageAt r i).header.target (messageAt r i).header.block) left
+              subst (Serves r i (message_at r i).header.target (message_at r i).header.block) left
               (serves r s i (leb-false (length r.mesh) i e));
         }
 
-pub says-whom : SaysWhom
-says-whom r i a r' h = whom r (sound-facts r h) i a r'
+pub says_whom : SaysWhom
+says_whom r i a r' h = whom r (sound_facts r h) i a r'
 
 -- an answer names one component and one block
-named-one : (r : Rack) (i c b : ℕ) (r' : Rack) → Names r i (Served c b) r' → Serves r i c b r'
-named-one r i c b r' names =
+named_one : (r : Rack) (i c b : ℕ) (r' : Rack) → Names r i (Served c b) r' → Serves r i c b r'
+named_one r i c b r' names =
     let same : Served c b ≡ Served names.component names.block = names.named in
     let component : names.component ≡ c = cc in
     let block : names.block ≡ b = cc in
@@ -99,55 +99,55 @@ named-one r i c b r' names =
 
 -- ---- of the bytes of a step
 
-abbrev isServed : Answer → Bool
-isServed Done = false
-isServed (Word w) = false
-isServed (Served c b) = true
+abbrev is_served : Answer → Bool
+is_served Done = false
+is_served (Word w) = false
+is_served (Served c b) = true
 
 module _ (s bytes : List ℕ) (c b : ℕ) where
-  the-answer : {a : Answer} (k : Check) (r : Rack) {r' : Rack} → settled k a r ≡ accepted (Served c b) r' → a ≡ Served c b
-  the-answer Pass r q = cc
-  the-answer (Refuse n) r q = cc
+  the_answer : {a : Answer} (k : Check) (r : Rack) {r' : Rack} → settled k a r ≡ accepted (Served c b) r' → a ≡ Served c b
+  the_answer Pass r q = cc
+  the_answer (Refuse n) r q = cc
 
-  not-served : {X : Type 0} {a : Answer} → a ≡ Served c b → isServed a ≡ false → X
-  not-served said other = differs (sym (ap isServed said) ∙ other)
+  not_served : {X : Type 0} {a : Answer} → a ≡ Served c b → is_served a ≡ false → X
+  not_served said other = differs (sym (ap is_served said) ∙ other)
 
   -- only a deliver says whom it served
-  by-step : (t : Step) → readRecord bytes ≡ Read t → soundBytes s ≡ true → rules (get s) t ≡ accepted (Served c b) (get (stepAfter s bytes))
+  by_step : (t : Step) → read_record bytes ≡ Read t → sound_bytes s ≡ true → rules (get s) t ≡ accepted (Served c b) (get (step_after s bytes))
       → answer (get s) t ≡ Served c b → ServedBy s bytes c b
   unfolding answer
-  by-step (Deliver i) e h q said = record { position = i; read = e; serves = named-one (get s) i c b _ (whom (get s) (rack-sound s h) i (Served c b) (get (stepAfter s bytes)) q) }
-  by-step (Load f g w) e h q said = not-served said refl
-  by-step (Store f g w v) e h q said = not-served said refl
-  by-step (Send f g t p o d) e h q said = not-served said refl
-  by-step (Raise f g) e h q said = not-served said refl
-  by-step (Lower f g) e h q said = not-served said refl
-  by-step (Forward f g) e h q said = not-served said refl
+  by_step (Deliver i) e h q said = record { position = i; read = e; serves = named_one (get s) i c b _ (whom (get s) (rack_sound s h) i (Served c b) (get (step_after s bytes)) q) }
+  by_step (Load f g w) e h q said = not_served said refl
+  by_step (Store f g w v) e h q said = not_served said refl
+  by_step (Send f g t p o d) e h q said = not_served said refl
+  by_step (Raise f g) e h q said = not_served said refl
+  by_step (Lower f g) e h q said = not_served said refl
+  by_step (Forward f g) e h q said = not_served said refl
 
-  by-rules : AcceptedAs s bytes (Served c b) → ServedBy s bytes c b
+  by_rules : AcceptedAs s bytes (Served c b) → ServedBy s bytes c b
   unfolding rules
-  by-rules made = by-step made.step made.read made.sound made.ruled (the-answer (check (get s) made.step) (after (get s) made.step) made.ruled)
+  by_rules made = by_step made.step made.read made.sound made.ruled (the_answer (check (get s) made.step) (after (get s) made.step) made.ruled)
 
-pub every-served : EveryServed
-every-served s bytes c b h told = by-rules s bytes c b ((every-step s bytes h).if-accepted (Served c b) told)
+pub every_served : EveryServed
+every_served s bytes c b h told = by_rules s bytes c b ((every_step s bytes h).if_accepted (Served c b) told)
 
 -- ---- all else is as it was
 
-without-served : (k : Check) (a a' : Answer) (r : Rack) → withoutServed (Accepted a) ≡ Accepted a' → withoutServed (reply (settled k a r)) ≡ reply (settled k a' r)
-without-served Pass a a' r e = e
-without-served (Refuse n) a a' r e = refl
+without_served_lem : (k : Check) (a a' : Answer) (r : Rack) → without_served (Accepted a) ≡ Accepted a' → without_served (reply (settled k a r)) ≡ reply (settled k a' r)
+without_served_lem Pass a a' r e = e
+without_served_lem (Refuse n) a a' r e = refl
 
-answer-before : (r : Rack) (s : Step) → withoutServed (Accepted (answer r s)) ≡ Accepted (answerBefore r s)
+answer_before_lem : (r : Rack) (s : Step) → without_served (Accepted (answer r s)) ≡ Accepted (answer_before r s)
 unfolding answer
-answer-before r (Load c b w) = refl
-answer-before r (Store c b w v) = refl
-answer-before r (Send c b t p o d) = refl
-answer-before r (Deliver i) = refl
-answer-before r (Raise c b) = refl
-answer-before r (Lower c b) = refl
-answer-before r (Forward c b) = refl
+answer_before_lem r (Load c b w) = refl
+answer_before_lem r (Store c b w v) = refl
+answer_before_lem r (Send c b t p o d) = refl
+answer_before_lem r (Deliver i) = refl
+answer_before_lem r (Raise c b) = refl
+answer_before_lem r (Lower c b) = refl
+answer_before_lem r (Forward c b) = refl
 
-same_answer : (r : Rack) (s : Step) → ((i : ℕ) → s ≡ Deliver i → ⊥) → answer r s ≡ answerBefore r s
+same_answer : (r : Rack) (s : Step) → ((i : ℕ) → s ≡ Deliver i → ⊥) → answer r s ≡ answer_before r s
 unfolding answer
 same_answer r (Load c b w) other = refl
 same_answer r (Store c b w v) other = refl
@@ -157,26 +157,26 @@ same_answer r (Raise c b) other = refl
 same_answer r (Lower c b) other = refl
 same_answer r (Forward c b) other = refl
 
-step-before : (r : Rack) (s : Step) → withoutServed (reply (rules r s)) ≡ replyBefore r s
+step_before : (r : Rack) (s : Step) → without_served (reply (rules r s)) ≡ reply_before r s
 unfolding rules
-step-before r s = without-served (check r s) (answer r s) (answerBefore r s) (after r s) (answer-before r s)
+step_before r s = without_served_lem (check r s) (answer r s) (answer_before r s) (after r s) (answer_before_lem r s)
 
-other-before : (r : Rack) (s : Step) → ((i : ℕ) → s ≡ Deliver i → ⊥) → reply (rules r s) ≡ replyBefore r s
+other_before : (r : Rack) (s : Step) → ((i : ℕ) → s ≡ Deliver i → ⊥) → reply (rules r s) ≡ reply_before r s
 unfolding rules
-other-before r s other = ap (λ (a : Answer). reply (settled (check r s) a (after r s))) (same_answer r s other)
+other_before r s other = ap (λ (a : Answer). reply (settled (check r s) a (after r s))) (same_answer r s other)
 
-list-before : (r : Rack) (ss : List Step) → map withoutServed (rackReplies r ss) ≡ repliesOf ruledAfter replyBefore r ss
-unfolding repliesOf
-list-before r [] = refl
-list-before r (s ∷ ss) = λ j. step-before r s j ∷ list-before (ruledAfter r s) ss j
+list_before : (r : Rack) (ss : List Step) → map without_served (rack_replies r ss) ≡ replies_of ruled_after reply_before r ss
+unfolding replies_of
+list_before r [] = refl
+list_before r (s ∷ ss) = λ j. step_before r s j ∷ list_before (ruled_after r s) ss j
 
-opening-before : (n b t : ℕ) (s : List ℕ) (a : Answer) → openReply n b t s ≡ Accepted a → a ≡ Done
-unfolding openReply
-opening-before n b t s a = by (openCheck n b t (length s))
+opening_before : (n b t : ℕ) (s : List ℕ) (a : Answer) → open_reply n b t s ≡ Accepted a → a ≡ Done
+unfolding open_reply
+opening_before n b t s a = by (open_check n b t (length s))
   where
-    by : (k : Check) → replyOf k ≡ Accepted a → a ≡ Done
+    by : (k : Check) → reply_of k ≡ Accepted a → a ≡ Done
     by Pass e = cc
     by (Refuse m) e = cc
 
 pub as_before : AsBefore
-as_before = record { step = step-before; other_step = other-before; list = list-before; opening = opening-before }
+as_before = record { step = step_before; other_step = other_before; list = list_before; opening = opening_before }

@@ -5,25 +5,25 @@ use Rattle.spec_base.specs.Number.{Bytes}
 use Rattle.spec_wire.specs.declared.Step.{Step}
 use Rattle.spec_wire.specs.declared.Step.TheVariants.{Load, Store, Send, Deliver, Raise, Lower, Forward}
 use Rattle.spec_wire.specs.declared.Reading.TheVariants.{Step as Read}
-use Rattle.spec_wire.specs.Reader.{readRecord}
+use Rattle.spec_wire.specs.Reader.{read_record}
 use Rattle.spec_rack.specs.declared.Answer.{Answer}
 use Rattle.spec_rack.specs.declared.Answer.TheVariants.{Done, Word, Served}
 use Rattle.spec_rack.specs.declared.Reply.{Reply}
 use Rattle.spec_rack.specs.declared.Reply.TheVariants.{Accepted, Refused}
-use Rattle.spec_rack.specs.Rack.{Rack, cell_at, messageAt, held, carried}
+use Rattle.spec_rack.specs.Rack.{Rack, cell_at, message_at, held, carried}
 use Rattle.spec_rack.specs.Soundness.{sound}
 use Rattle.spec_rack.specs.Rules.{accepted, settled, check, after, rules, reply}
 use Rattle.spec_rack.specs.RecordLayout.{get}
-use Rattle.spec_rack.specs.Opening.{openReply}
-use Rattle.spec_rack.specs.Entries.{stepReply, stepAfter}
-use Rattle.spec_rack.specs.Lists.{repliesOf, ruledAfter, rackReplies}
+use Rattle.spec_rack.specs.Opening.{open_reply}
+use Rattle.spec_rack.specs.Entries.{step_reply, step_after}
+use Rattle.spec_rack.specs.Lists.{replies_of, ruled_after, rack_replies}
 
 -- ---- whom it served
 
 -- r before the deliver of message i and r' after it: component c got the tokens of block b that the message carried, and no other cell changed
 pub record Serves (r : Rack) (i c b : ℕ) (r' : Rack) : Type 0 where
-  pub gains : held (cell_at r' b c) ≡ held (cell_at r b c) + carried (messageAt r i)
-  pub some : 0 < carried (messageAt r i)
+  pub gains : held (cell_at r' b c) ≡ held (cell_at r b c) + carried (message_at r i)
+  pub some : 0 < carried (message_at r i)
   pub others : (j k : ℕ) → ((j ≡ b) × (k ≡ c) → ⊥) → cell_at r' j k ≡ cell_at r j k
 
 -- an answer that names a component and a block, and these are whom the deliver of message i served
@@ -42,40 +42,40 @@ SaysWhom = (r : Rack) (i : ℕ) (a : Answer) (r' : Rack) → sound r ≡ true �
 -- the bytes were a deliver, and this is whom it served
 pub record ServedBy (s bytes : List ℕ) (c b : ℕ) : Type 0 where
   pub position : ℕ
-  pub read : readRecord bytes ≡ Read (Deliver position)
-  pub serves : Serves (get s) position c b (get (stepAfter s bytes))
+  pub read : read_record bytes ≡ Read (Deliver position)
+  pub serves : Serves (get s) position c b (get (step_after s bytes))
 
 -- whatever the buffer held and whatever the bytes were: who is told "served" can rely on it
 abbrev pub EveryServed : Type 0
-EveryServed = (s bytes : List ℕ) (c b : ℕ) → Bytes s → stepReply s bytes ≡ Accepted (Served c b) → ServedBy s bytes c b
+EveryServed = (s bytes : List ℕ) (c b : ℕ) → Bytes s → step_reply s bytes ≡ Accepted (Served c b) → ServedBy s bytes c b
 
 -- ---- all else is as it was
 
 -- document 01: a load gives the word, every other step only "done"
-abbrev pub answerBefore : Rack → Step → Answer
-answerBefore r (Load c b w) = Word (get_or (cell_at r b c).words w 0)
-answerBefore r (Store c b w v) = Done
-answerBefore r (Send c b t p o d) = Done
-answerBefore r (Deliver i) = Done
-answerBefore r (Raise c b) = Done
-answerBefore r (Lower c b) = Done
-answerBefore r (Forward c b) = Done
+abbrev pub answer_before : Rack → Step → Answer
+answer_before r (Load c b w) = Word (get_or (cell_at r b c).words w 0)
+answer_before r (Store c b w v) = Done
+answer_before r (Send c b t p o d) = Done
+answer_before r (Deliver i) = Done
+answer_before r (Raise c b) = Done
+answer_before r (Lower c b) = Done
+answer_before r (Forward c b) = Done
 
-abbrev pub replyBefore : Rack → Step → Reply
-replyBefore r s = reply (settled (check r s) (answerBefore r s) (after r s))
+abbrev pub reply_before : Rack → Step → Reply
+reply_before r s = reply (settled (check r s) (answer_before r s) (after r s))
 
 -- a reply to a reader who does not care whom a deliver served
-abbrev pub withoutServed : Reply → Reply
-withoutServed (Accepted Done) = Accepted Done
-withoutServed (Accepted (Word w)) = Accepted (Word w)
-withoutServed (Accepted (Served c b)) = Accepted Done
-withoutServed (Refused n) = Refused n
+abbrev pub without_served : Reply → Reply
+without_served (Accepted Done) = Accepted Done
+without_served (Accepted (Word w)) = Accepted (Word w)
+without_served (Accepted (Served c b)) = Accepted Done
+without_served (Refused n) = Refused n
 
 -- Only a deliver's reply is new, and only where it is accepted. Which steps are accepted and what they change is said by `check` and `after`, of which
 -- No. 1 says nothing.
 pub record AsBefore : Type 0 where
-  pub step : (r : Rack) (s : Step) → withoutServed (reply (rules r s)) ≡ replyBefore r s
-  pub other_step : (r : Rack) (s : Step) → ((i : ℕ) → s ≡ Deliver i → ⊥) → reply (rules r s) ≡ replyBefore r s
-  pub list : (r : Rack) (ss : List Step) → map withoutServed (rackReplies r ss) ≡ repliesOf ruledAfter replyBefore r ss
+  pub step : (r : Rack) (s : Step) → without_served (reply (rules r s)) ≡ reply_before r s
+  pub other_step : (r : Rack) (s : Step) → ((i : ℕ) → s ≡ Deliver i → ⊥) → reply (rules r s) ≡ reply_before r s
+  pub list : (r : Rack) (ss : List Step) → map without_served (rack_replies r ss) ≡ replies_of ruled_after reply_before r ss
   -- an opening gives only "done"
-  pub opening : (n b t : ℕ) (s : List ℕ) (a : Answer) → openReply n b t s ≡ Accepted a → a ≡ Done
+  pub opening : (n b t : ℕ) (s : List ℕ) (a : Answer) → open_reply n b t s ≡ Accepted a → a ≡ Done

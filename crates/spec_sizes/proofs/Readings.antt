@@ -7,9 +7,9 @@ pub limits : Limits
 unfolding in_range
 limits = record { taken = refl; refused = refl; smallest = refl; largest = refl }
 
-pub old-form : OldForm
-old-form n b t = refl
+pub old_form : OldForm
+old_form n b t = refl
 
-pub other-sizes : OtherSizes
+pub other_sizes : OtherSizes
 unfolding in_range
-other-sizes = refl
+other_sizes = refl

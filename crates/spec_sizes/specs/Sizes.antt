@@ -3,12 +3,12 @@ use Rattle.std.specs.Prelude.{ℕ, Bool, ◌&&◌, ◌||◌, eqb, leb}
 use Rattle.spec_sizes.specs.declared.Sizes.{Sizes}
 
 -- No. 5: an opening names N, B, T and the mesh limit
-abbrev pub meshSizes : ℕ → ℕ → ℕ → ℕ → Sizes
-meshSizes n b t l = record { boards = n; blocks = b; tokens = t; limit = l }
+abbrev pub mesh_sizes : ℕ → ℕ → ℕ → ℕ → Sizes
+mesh_sizes n b t l = record { boards = n; blocks = b; tokens = t; limit = l }
 
 -- "The old form means 64"
-abbrev pub baseSizes : ℕ → ℕ → ℕ → Sizes
-baseSizes n b t = meshSizes n b t 64
+abbrev pub base_sizes : ℕ → ℕ → ℕ → Sizes
+base_sizes n b t = mesh_sizes n b t 64
 
 -- No. 5: the mesh limit, 16 or 64
 abbrev pub limits : ℕ → Bool

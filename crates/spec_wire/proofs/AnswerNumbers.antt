@@ -17,87 +17,87 @@ use Rattle.spec_wire.specs.declared.Written.{Written}
 use Rattle.spec_wire.specs.declared.Written.TheVariants.{Count, Refused as NotWritten}
 use Rattle.spec_wire.specs.Refusals.{number, numbered}
 use Rattle.spec_wire.specs.Results.{packed, done, refused}
-use Rattle.spec_wire.specs.Kinds.{fieldArray, stepInBounds}
-use Rattle.spec_wire.specs.FieldArray.{stepOfTwelve, stepOfArray, readResult, readAfter, writeResult}
+use Rattle.spec_wire.specs.Kinds.{field_array, step_in_bounds}
+use Rattle.spec_wire.specs.FieldArray.{step_of_twelve, step_of_array, read_result, read_after, write_result}
 use Rattle.spec_wire.specs.Writer.{placed}
-use Rattle.spec_wire.specs.AnswerNumbers.{kindPart, componentPart, blockPart, numberPart, unpacked, decodedWritten, decodedReading, unpackedWritten, unpackedReading, writtenFits, AnswerNumbers}
-use Rattle.spec_wire.proofs.RefusalTable.{number-known, number-back}
-use Rattle.spec_wire.proofs.KindTable.{places-length}
-use Rattle.spec_wire.proofs.FieldArrays.{told-places}
+use Rattle.spec_wire.specs.AnswerNumbers.{kind_part, component_part, block_part, number_part, unpacked, decoded_written, decoded_reading, unpacked_written, unpacked_reading, written_fits, AnswerNumbers}
+use Rattle.spec_wire.proofs.RefusalTable.{number_known, number_back}
+use Rattle.spec_wire.proofs.KindTable.{places_length}
+use Rattle.spec_wire.proofs.FieldArrays.{told_places}
 
 -- the parts of a packed number, each within its bits
 module _ (k c b n : ℕ) (in8 : c < 0x100) (in16 : b < 0x1_0000) (in32 : n < 0x1_0000_0000) where
-  pub packed-kind : kindPart (packed k c b n) ≡ k
-  packed-kind = omega arith
+  pub packed_kind : kind_part (packed k c b n) ≡ k
+  packed_kind = omega arith
 
-  pub packed-component : componentPart (packed k c b n) ≡ c
-  packed-component = omega arith
+  pub packed_component : component_part (packed k c b n) ≡ c
+  packed_component = omega arith
 
-  pub packed-block : blockPart (packed k c b n) ≡ b
-  packed-block = omega arith
+  pub packed_block : block_part (packed k c b n) ≡ b
+  packed_block = omega arith
 
-  pub packed-number : numberPart (packed k c b n) ≡ n
-  packed-number = omega arith
+  pub packed_number : number_part (packed k c b n) ≡ n
+  packed_number = omega arith
 
-  pub parts-back : unpacked (packed k c b n) ≡ (k, c, b, n)
-  parts-back = λ i. (packed-kind i, packed-component i, packed-block i, packed-number i)
+  pub parts_back : unpacked (packed k c b n) ≡ (k, c, b, n)
+  parts_back = λ i. (packed_kind i, packed_component i, packed_block i, packed_number i)
 
 -- of a kind and a number alone
-pub plain-kind : (k n : ℕ) → n < 0x1_0000_0000 → kindPart (packed k 0 0 n) ≡ k
-plain-kind k n h = packed-kind k 0 0 n (omega arith) (omega arith) h
+pub plain_kind : (k n : ℕ) → n < 0x1_0000_0000 → kind_part (packed k 0 0 n) ≡ k
+plain_kind k n h = packed_kind k 0 0 n (omega arith) (omega arith) h
 
-pub plain-number : (k n : ℕ) → n < 0x1_0000_0000 → numberPart (packed k 0 0 n) ≡ n
-plain-number k n h = packed-number k 0 0 n (omega arith) (omega arith) h
+pub plain_number : (k n : ℕ) → n < 0x1_0000_0000 → number_part (packed k 0 0 n) ≡ n
+plain_number k n h = packed_number k 0 0 n (omega arith) (omega arith) h
 
-refusal-small : (r : Refusal) → number r < 0x1_0000_0000
-refusal-small r = omega (arith, number-known r)
+refusal_small : (r : Refusal) → number r < 0x1_0000_0000
+refusal_small r = omega (arith, number_known r)
 
-pub refusal-kind : (r : Refusal) → kindPart (refused r) ≡ 1
-refusal-kind r = plain-kind 1 (number r) (refusal-small r)
+pub refusal_kind : (r : Refusal) → kind_part (refused r) ≡ 1
+refusal_kind r = plain_kind 1 (number r) (refusal_small r)
 
-pub refusal-number : (r : Refusal) → numberPart (refused r) ≡ number r
-refusal-number r = plain-number 1 (number r) (refusal-small r)
+pub refusal_number : (r : Refusal) → number_part (refused r) ≡ number r
+refusal_number r = plain_number 1 (number r) (refusal_small r)
 
 -- a refusal's number tells it
-pub refusal-told : (r : Refusal) → numbered (numberPart (refused r)) ≡ r
-refusal-told r = ap numbered (refusal-number r) ∙ number-back r
+pub refusal_told : (r : Refusal) → numbered (number_part (refused r)) ≡ r
+refusal_told r = ap numbered (refusal_number r) ∙ number_back r
 
 -- the numbers of a step tell it, whatever stands behind them
-told-front : (s : Step) (q : List ℕ) → stepInBounds s ≡ true → stepOfArray (fieldArray s ++ q) ≡ Read s
-unfolding stepOfArray
-told-front s q h =
-    let p : List ℕ = fieldArray s in
-    let n : length p ≡ 12 = places-length s in
+told_front : (s : Step) (q : List ℕ) → step_in_bounds s ≡ true → step_of_array (field_array s ++ q) ≡ Read s
+unfolding step_of_array
+told_front s q h =
+    let p : List ℕ = field_array s in
+    let n : length p ≡ 12 = places_length s in
     let long : leb 12 (length (p ++ q)) ≡ leb 12 (length p) =
     le-leb 12 (length (p ++ q)) (omega (arith, length-append p q)) ∙ sym (le-leb 12 (length p) (omega arith)) in
     let same : take 12 (p ++ q) ≡ take 12 p = take_at p q 12 n ∙ sym (take_all 12 p (omega arith)) in
-    (λ i. cond (long i) (stepOfTwelve (same i)) (Refused Torn)) ∙ told-places s h
+    (λ i. cond (long i) (step_of_twelve (same i)) (Refused Torn)) ∙ told_places s h
 
-pub step_back : (s : Step) (out : List ℕ) → stepInBounds s ≡ true → 12 ≤ length out → unpackedReading (readResult (Read s) out) (readAfter (Read s) out) ≡ Read s
-unfolding readResult readAfter placed place
-step_back s out h l = rw (le-leb (0 + length (fieldArray s)) (length out) (omega (arith, places-length s))) (told-front s (drop (0 + length (fieldArray s)) out) h)
+pub step_back : (s : Step) (out : List ℕ) → step_in_bounds s ≡ true → 12 ≤ length out → unpacked_reading (read_result (Read s) out) (read_after (Read s) out) ≡ Read s
+unfolding read_result read_after placed place
+step_back s out h l = rw (le-leb (0 + length (field_array s)) (length out) (omega (arith, places_length s))) (told_front s (drop (0 + length (field_array s)) out) h)
 
-pub refused-back : (r : Refusal) (out : List ℕ) → unpackedReading (readResult (Refused r) out) (readAfter (Refused r) out) ≡ Refused r
-unfolding readResult readAfter
-refused-back r out = ap (λ (k : ℕ). decodedReading k (numberPart (refused r)) out) (refusal-kind r) ∙ ap Refused (refusal-told r)
+pub refused_back : (r : Refusal) (out : List ℕ) → unpacked_reading (read_result (Refused r) out) (read_after (Refused r) out) ≡ Refused r
+unfolding read_result read_after
+refused_back r out = ap (λ (k : ℕ). decoded_reading k (number_part (refused r)) out) (refusal_kind r) ∙ ap Refused (refusal_told r)
 
-pub written_back : (w : Written) → writtenFits w ≡ true → unpackedWritten (writeResult w) ≡ w
+pub written_back : (w : Written) → written_fits w ≡ true → unpacked_written (write_result w) ≡ w
 written_back (Count n) h =
     let small : n < 0x1_0000_0000 = ltb-true n 0x1_0000_0000 h in
-    ap (λ (k : ℕ). decodedWritten k (numberPart (done n))) (plain-kind 0 n small) ∙ ap Count (plain-number 0 n small)
-written_back (NotWritten r) h = ap (λ (k : ℕ). decodedWritten k (numberPart (refused r))) (refusal-kind r) ∙ ap NotWritten (refusal-told r)
+    ap (λ (k : ℕ). decoded_written k (number_part (done n))) (plain_kind 0 n small) ∙ ap Count (plain_number 0 n small)
+written_back (NotWritten r) h = ap (λ (k : ℕ). decoded_written k (number_part (refused r))) (refusal_kind r) ∙ ap NotWritten (refusal_told r)
 
-pub answer-numbers : AnswerNumbers
-answer-numbers =
+pub answer_numbers : AnswerNumbers
+answer_numbers =
     record {
-      refusal-kind = refusal-kind;
-      refusal-number = refusal-number;
-      refusal-back = number-back;
+      refusal_kind = refusal_kind;
+      refusal_number = refusal_number;
+      refusal_back = number_back;
       written_back = written_back;
       step_back = step_back;
-      refused-back = refused-back;
-      parts-back = parts-back;
+      refused_back = refused_back;
+      parts_back = parts_back;
       parts = refl;
-      count-27 = refl;
-      written-20 = refl;
+      count_27 = refl;
+      written_20 = refl;
     }

@@ -5,7 +5,7 @@ use mathlib.Core.Bool.{Bool, true, false}
 use Prim.Native.Nat.{ℕ, ◌≤◌}
 use native.Mathlib.Omega.{arith}
 use borrow.Author.Tests.{lt-ltb, le-ltb, le-leb, lt-leb, eq-eqb, ne_eqb}
-use Rattle.spec_base.proofs.Tests.{differs, and-of, and_left, and_right, or_left, or_right, or-none, not_of_false, not-of-true}
+use Rattle.spec_base.proofs.Tests.{differs, and_of, and_left, and_right, or_left, or_right, or_none, not_of_false, not_of_true}
 use Rattle.spec_wire.specs.declared.Check.{Check}
 use Rattle.spec_wire.specs.declared.Check.TheVariants.{Pass, Refuse}
 use Rattle.spec_wire.specs.declared.Refusal.{Refusal}
@@ -37,54 +37,54 @@ is_true t e = sym e
 pub is_false : (t : Bool) → t ≡ false → false ≡ t
 is_false t e = sym e
 
-pub ruleset table = (stops, goes, is_true, is_false, and-of, and_left, and_right, or_left, or_right, or-none, not_of_false, not-of-true, lt-ltb, le-ltb, le-leb, lt-leb, eq-eqb, ne_eqb, arith)
+pub ruleset table = (stops, goes, is_true, is_false, and_of, and_left, and_right, or_left, or_right, or_none, not_of_false, not_of_true, lt-ltb, le-ltb, le-leb, lt-leb, eq-eqb, ne_eqb, arith)
 
 -- every refusal has a number from 1 to 20
-pub number-known : (r : Refusal) → (1 ≤ number r) × (number r ≤ 20)
-number-known Torn = omega arith
-number-known Unsound = omega arith
-number-known OffRack = omega arith
-number-known Home = omega arith
-number-known NoToken = omega arith
-number-known NoData = omega arith
-number-known Short = omega arith
-number-known SelfSend = omega arith
-number-known Claimed = omega arith
-number-known Empty = omega arith
-number-known NotHeld = omega arith
-number-known BareOwner = omega arith
-number-known MeshFull = omega arith
-number-known NoMessage = omega arith
-number-known Waiting = omega arith
-number-known Barred = omega arith
-number-known NotWaiting = omega arith
-number-known Unclaimed = omega arith
-number-known Size = omega arith
-number-known ShortBuffer = omega arith
+pub number_known : (r : Refusal) → (1 ≤ number r) × (number r ≤ 20)
+number_known Torn = omega arith
+number_known Unsound = omega arith
+number_known OffRack = omega arith
+number_known Home = omega arith
+number_known NoToken = omega arith
+number_known NoData = omega arith
+number_known Short = omega arith
+number_known SelfSend = omega arith
+number_known Claimed = omega arith
+number_known Empty = omega arith
+number_known NotHeld = omega arith
+number_known BareOwner = omega arith
+number_known MeshFull = omega arith
+number_known NoMessage = omega arith
+number_known Waiting = omega arith
+number_known Barred = omega arith
+number_known NotWaiting = omega arith
+number_known Unclaimed = omega arith
+number_known Size = omega arith
+number_known ShortBuffer = omega arith
 
 -- the number of a refusal tells it
-pub number-back : (r : Refusal) → numbered (number r) ≡ r
-number-back Torn = refl
-number-back Unsound = refl
-number-back OffRack = refl
-number-back Home = refl
-number-back NoToken = refl
-number-back NoData = refl
-number-back Short = refl
-number-back SelfSend = refl
-number-back Claimed = refl
-number-back Empty = refl
-number-back NotHeld = refl
-number-back BareOwner = refl
-number-back MeshFull = refl
-number-back NoMessage = refl
-number-back Waiting = refl
-number-back Barred = refl
-number-back NotWaiting = refl
-number-back Unclaimed = refl
-number-back Size = refl
-number-back ShortBuffer = refl
+pub number_back : (r : Refusal) → numbered (number r) ≡ r
+number_back Torn = refl
+number_back Unsound = refl
+number_back OffRack = refl
+number_back Home = refl
+number_back NoToken = refl
+number_back NoData = refl
+number_back Short = refl
+number_back SelfSend = refl
+number_back Claimed = refl
+number_back Empty = refl
+number_back NotHeld = refl
+number_back BareOwner = refl
+number_back MeshFull = refl
+number_back NoMessage = refl
+number_back Waiting = refl
+number_back Barred = refl
+number_back NotWaiting = refl
+number_back Unclaimed = refl
+number_back Size = refl
+number_back ShortBuffer = refl
 
 -- two refusals with one number are the same
 pub same_number : (a b : Refusal) → number a ≡ number b → a ≡ b
-same_number a b e = sym (number-back a) ∙ ap numbered e ∙ number-back b
+same_number a b e = sym (number_back a) ∙ ap numbered e ∙ number_back b

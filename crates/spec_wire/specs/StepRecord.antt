@@ -3,29 +3,29 @@ use Rattle.std.specs.Prelude.{ℕ, ◌+◌, List, [], ◌∷◌, ◌++◌, lengt
 use Rattle.spec_base.specs.Number.{digits}
 use Rattle.spec_wire.specs.declared.Field.{Field}
 use Rattle.spec_wire.specs.declared.Step.{Step}
-use Rattle.spec_wire.specs.Kinds.{fieldArray, kindIn, value_of, kind_of}
+use Rattle.spec_wire.specs.Kinds.{field_array, kind_in, value_of, kind_of}
 
 -- a field: its tag, a two-byte length, its value
-unfoldable pub fieldBytes : Field → ℕ → List ℕ
-fieldBytes f v = f.tag ∷ (digits 2 f.width ++ digits f.width v)
+unfoldable pub field_bytes : Field → ℕ → List ℕ
+field_bytes f v = f.tag ∷ (digits 2 f.width ++ digits f.width v)
 
 -- a body: fields one after the other
-abbrev pub bodyBytes : List Field → List ℕ → List ℕ
-bodyBytes [] p = []
-bodyBytes (f ∷ fs) p = fieldBytes f (value_of f p) ++ bodyBytes fs p
+abbrev pub body_bytes : List Field → List ℕ → List ℕ
+body_bytes [] p = []
+body_bytes (f ∷ fs) p = field_bytes f (value_of f p) ++ body_bytes fs p
 
 -- a step record: its kind byte, a two-byte length, its body
-unfoldable pub recordBytes : ℕ → List ℕ → List ℕ
-recordBytes kind body = kind ∷ (digits 2 (length body) ++ body)
+unfoldable pub record_bytes : ℕ → List ℕ → List ℕ
+record_bytes kind body = kind ∷ (digits 2 (length body) ++ body)
 
 -- the step record of a step
-unfoldable pub stepBytes : Step → List ℕ
-stepBytes s = recordBytes (kindIn (fieldArray s)) (bodyBytes (kind_of (kindIn (fieldArray s))).fields (fieldArray s))
+unfoldable pub step_bytes : Step → List ℕ
+step_bytes s = record_bytes (kind_in (field_array s)) (body_bytes (kind_of (kind_in (field_array s))).fields (field_array s))
 
 -- the count of bytes of a field, and of several
-abbrev pub fieldSize : Field → ℕ
-fieldSize f = 3 + f.width
+abbrev pub field_size : Field → ℕ
+field_size f = 3 + f.width
 
-abbrev pub fieldSizes : List Field → ℕ
-fieldSizes [] = 0
-fieldSizes (f ∷ fs) = fieldSize f + fieldSizes fs
+abbrev pub field_sizes : List Field → ℕ
+field_sizes [] = 0
+field_sizes (f ∷ fs) = field_size f + field_sizes fs

@@ -3,7 +3,7 @@ ghost use Rattle.std.specs.Prelude.{◌≡◌};
 ghost use Rattle.spec_rack.specs.Rules.{check};
 ghost use Rattle.spec_rack.specs.RecordLayout.{get};
 ghost use Rattle.record.specs.Needs.{InLayout, SoundRecord};
-ghost use Rattle.spec_rack.specs.Entries.{replyToStep, bufferAfter};
+ghost use Rattle.spec_rack.specs.Entries.{reply_to_step, buffer_after};
 
 use base::wide;
 use spec_rack::{Answer, Reply, TOKEN_COUNT_OFFSET};
@@ -11,7 +11,7 @@ use spec_wire::{Check, Refusal, Step};
 
 pub fn load(rec: &[u8], component: u8, block: u8, word: u8) -> Reply
     requires { SoundRecord rec.now }
-    ensures { result ≡ replyToStep rec.now (Step.Load component block word) }
+    ensures { result ≡ reply_to_step rec.now (Step.Load component block word) }
 {
     if step_checks::off_rack_word(rec, component, block, word) {
         return Reply::Refused(Refusal::OffRack);
@@ -45,8 +45,8 @@ fn store_check(rec: &[u8], component: u8, block: u8, word: u8, value: u32) -> Ch
 
 pub fn store(rec: &mut [u8], component: u8, block: u8, word: u8, value: u32) -> Reply
     requires { SoundRecord rec.old }
-    ensures reply { result ≡ replyToStep rec.old (Step.Store component block word value) }
-    ensures buffer { rec.new ≡ bufferAfter rec.old (Step.Store component block word value) }
+    ensures reply { result ≡ reply_to_step rec.old (Step.Store component block word value) }
+    ensures buffer { rec.new ≡ buffer_after rec.old (Step.Store component block word value) }
 {
     let verdict = store_check(rec, component, block, word, value);
     if step_checks::is_pass(verdict) {

@@ -15,12 +15,12 @@ use Rattle.spec_wire.specs.declared.Check.TheVariants.{Pass}
 use Rattle.spec_wire.specs.Refusals.{when◌refuse◌else◌}
 use Rattle.spec_wire.proofs.RefusalTable.{past}
 use Rattle.spec_wire.specs.declared.Step.TheVariants.{Store, Send, Deliver, Raise, Lower, Forward}
-use Rattle.spec_rack.specs.Rack.{meshLimit, present, cell_at}
-use Rattle.spec_rack.specs.Rules.{check, offRack, meshFull}
-use Rattle.spec_rack.specs.RecordLayout.{get, messagesIn}
+use Rattle.spec_rack.specs.Rack.{mesh_limit, present, cell_at}
+use Rattle.spec_rack.specs.Rules.{check, off_rack, mesh_full}
+use Rattle.spec_rack.specs.RecordLayout.{get, messages_in}
 use Rattle.record.specs.Needs.{CellInRecord, SoundRecord}
-use Rattle.spec_rack.proofs.GetPut.{boards-is, blocks_is, mesh-is}
-use Rattle.spec_rack.proofs.SoundRecord.{rack-sound}
+use Rattle.spec_rack.proofs.GetPut.{boards_is, blocks_is, mesh_is}
+use Rattle.spec_rack.proofs.SoundRecord.{rack_sound}
 use Rattle.spec_rack.proofs.ExclusiveStore.{owner_here}
 use Rattle.step_checks.specs.Sendable.{CanSend}
 use Rattle.step_checks.proofs.RackBounds.{in_cell, on_word}
@@ -28,25 +28,25 @@ use Rattle.step_checks.proofs.RackBounds.{in_cell, on_word}
 module _ (s : List ℕ) (ready : SoundRecord s) where
   -- ---- the lines that several kinds share
 
-  on-rack : (c b : ℕ) → offRack (get s) c b ≡ false → CellInRecord s b c
-  on-rack c b h = in_cell s c b refl h ready.whole
+  on_rack : (c b : ℕ) → off_rack (get s) c b ≡ false → CellInRecord s b c
+  on_rack c b h = in_cell s c b refl h ready.whole
 
-  on-board : (c b : ℕ) (k : Check) → (when offRack (get s) c b refuse OffRack else when eqb c 0 refuse Home else k) ≡ Pass → CellInRecord s b c × (1 ≤ c)
-  on-board c b k h =
+  on_board : (c b : ℕ) (k : Check) → (when off_rack (get s) c b refuse OffRack else when eqb c 0 refuse Home else k) ≡ Pass → CellInRecord s b c × (1 ≤ c)
+  on_board c b k h =
       let known = past _ _ _ h in
       let ne : c ≡ 0 → ⊥ = eqb-false c 0 (past _ _ _ known.1).0 in
-      (on-rack c b known.0, omega arith)
+      (on_rack c b known.0, omega arith)
 
-  room : meshFull (get s) ≡ false → messagesIn s < 64
-  unfolding meshLimit
-  room h = omega (arith, mesh-is s, leb-false 64 (length (get s).mesh) h)
+  room : mesh_full (get s) ≡ false → messages_in s < 64
+  unfolding mesh_limit
+  room h = omega (arith, mesh_is s, leb-false 64 (length (get s).mesh) h)
 
   -- ---- kind by kind
 
   -- who holds every token has the owner
-  pub store-passed : (c b w v : ℕ) → check (get s) (Store c b w v) ≡ Pass → CellInRecord s b c × ((w < 8) × (present (cell_at (get s) b c).owner ≡ true))
+  pub store_passed : (c b w v : ℕ) → check (get s) (Store c b w v) ≡ Pass → CellInRecord s b c × ((w < 8) × (present (cell_at (get s) b c).owner ≡ true))
   unfolding check
-  store-passed c b w v h =
+  store_passed c b w v h =
       let known = past _ _ _ h in
       let board = past _ _ _ known.1 in
       let all = past _ _ _ board.1 in
@@ -54,14 +54,14 @@ module _ (s : List ℕ) (ready : SoundRecord s) where
         there.0,
         (
           there.1,
-          owner_here (get s) (rack-sound s ready.sound) c b (omega (arith, boards-is s, there.0.component)) (omega (arith, blocks_is s, there.0.block))
+          owner_here (get s) (rack_sound s ready.sound) c b (omega (arith, boards_is s, there.0.component)) (omega (arith, blocks_is s, there.0.block))
               (ltb-false _ _ all.0),
         ),
       )
 
-  pub send-passed : (c b t p : ℕ) (o d : Bool) → check (get s) (Send c b t p o d) ≡ Pass → CanSend s c b p
+  pub send_passed : (c b t p : ℕ) (o d : Bool) → check (get s) (Send c b t p o d) ≡ Pass → CanSend s c b p
   unfolding check
-  send-passed c b t p o d h =
+  send_passed c b t p o d h =
       let known = past _ _ _ h in
       let apart = past _ _ _ known.1 in
       let free = past _ _ _ apart.1 in
@@ -72,29 +72,29 @@ module _ (s : List ℕ) (ready : SoundRecord s) where
       let full = past _ _ _ stale.1 in
       record {
         ready = ready;
-        in_cell = on-rack c b (or_l _ _ known.0);
+        in_cell = on_rack c b (or_l _ _ known.0);
         enough = ltb-false _ _ (or_l _ _ enough.0);
         room = room full.0;
       }
 
-  pub deliver-passed : (i : ℕ) → check (get s) (Deliver i) ≡ Pass → i < messagesIn s
+  pub deliver_passed : (i : ℕ) → check (get s) (Deliver i) ≡ Pass → i < messages_in s
   unfolding check
-  deliver-passed i h = omega (arith, mesh-is s, leb-false (length (get s).mesh) i (past _ _ _ h).0)
+  deliver_passed i h = omega (arith, mesh_is s, leb-false (length (get s).mesh) i (past _ _ _ h).0)
 
-  pub raise-passed : (c b : ℕ) → check (get s) (Raise c b) ≡ Pass → CellInRecord s b c × (1 ≤ c)
+  pub raise_passed : (c b : ℕ) → check (get s) (Raise c b) ≡ Pass → CellInRecord s b c × (1 ≤ c)
   unfolding check
-  raise-passed c b h = on-board c b _ h
+  raise_passed c b h = on_board c b _ h
 
-  pub lower-passed : (c b : ℕ) → check (get s) (Lower c b) ≡ Pass → CellInRecord s b c × (1 ≤ c)
+  pub lower_passed : (c b : ℕ) → check (get s) (Lower c b) ≡ Pass → CellInRecord s b c × (1 ≤ c)
   unfolding check
-  lower-passed c b h = on-board c b _ h
+  lower_passed c b h = on_board c b _ h
 
-  pub forward-passed : (c b : ℕ) → check (get s) (Forward c b) ≡ Pass → CanSend s c b (cell_at (get s) b c).plain
+  pub forward_passed : (c b : ℕ) → check (get s) (Forward c b) ≡ Pass → CanSend s c b (cell_at (get s) b c).plain
   unfolding check
-  forward-passed c b h =
+  forward_passed c b h =
       let known = past _ _ _ h in
       let claimed = past _ _ _ known.1 in
       let apart = past _ _ _ claimed.1 in
       let token = past _ _ _ apart.1 in
       let full = past _ _ _ token.1 in
-      record { ready = ready; in_cell = on-rack c b known.0; enough = le_refl _; room = room full.0 }
+      record { ready = ready; in_cell = on_rack c b known.0; enough = le_refl _; room = room full.0 }

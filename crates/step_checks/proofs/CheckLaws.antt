@@ -13,137 +13,137 @@ use Rattle.spec_wire.specs.declared.Check.TheVariants.{Pass, Refuse}
 use Rattle.spec_wire.specs.Refusals.{when◌refuse◌else◌}
 use Rattle.spec_wire.proofs.RefusalTable.{table}
 use Rattle.spec_wire.specs.declared.Step.TheVariants.{Load, Store, Send, Deliver, Raise, Lower, Forward}
-use Rattle.spec_arbiter.specs.Claims.{raiseCheck, lowerCheck}
-use Rattle.spec_rack.specs.Rack.{Cell, Rack, owners, claimsAt, cell_at, held}
-use Rattle.spec_rack.specs.Rules.{check, offRack}
+use Rattle.spec_arbiter.specs.Claims.{raise_check, lower_check}
+use Rattle.spec_rack.specs.Rack.{Cell, Rack, owners, claims_at, cell_at, held}
+use Rattle.spec_rack.specs.Rules.{check, off_rack}
 use Rattle.record.specs.declared.TokenState.{TokenState}
 use Rattle.record.specs.Changes.{TokenStateOf}
 use Rattle.spec_base.proofs.Tests.{differs}
-use Rattle.step_checks.specs.Checked.{isPass, boardLines}
+use Rattle.step_checks.specs.Checked.{is_pass, board_lines}
 
 -- the token state has the count of tokens that the cell holds
-pub held-is : {x : Cell} {m : TokenState} {h : ℕ} → TokenStateOf x m → h ≡ m.plain + owners m.owner → h ≡ held x
-held-is state tokens = tokens ∙ (λ i. state.plain i + owners (state.owner i))
+pub held_is : {x : Cell} {m : TokenState} {h : ℕ} → TokenStateOf x m → h ≡ m.plain + owners m.owner → h ≡ held x
+held_is state tokens = tokens ∙ (λ i. state.plain i + owners (state.owner i))
 
 -- ---- load and store
 
-module _ (r : Rack) (c b w : ℕ) {off : Bool} (off-is : off ≡ (offRack r c b || ltb 7 w)) where
+module _ (r : Rack) (c b w : ℕ) {off : Bool} (off-is : off ≡ (off_rack r c b || ltb 7 w)) where
   module _ (off-rack : off ≡ true) where
-    pub load-off-rack : Refuse OffRack ≡ check r (Load c b w)
+    pub load_off_rack : Refuse OffRack ≡ check r (Load c b w)
     unfolding check
-    load-off-rack = search (table, sym off-is ∙ off-rack) depth 10
+    load_off_rack = search (table, sym off-is ∙ off-rack) depth 10
 
-    pub store-off-rack : (v : ℕ) → Refuse OffRack ≡ check r (Store c b w v)
+    pub store_off_rack : (v : ℕ) → Refuse OffRack ≡ check r (Store c b w v)
     unfolding check
-    store-off-rack v = search (table, sym off-is ∙ off-rack) depth 10
+    store_off_rack v = search (table, sym off-is ∙ off-rack) depth 10
 
-  module _ (on-rack : off ≡ false) where
+  module _ (on_rack : off ≡ false) where
     module _ {m : TokenState} (state : TokenStateOf (cell_at r b c) m) {h : ℕ} (tokens : h ≡ m.plain + owners m.owner) where
-      pub load-no-token : h ≡ 0 → Refuse NoToken ≡ check r (Load c b w)
+      pub load_no_token : h ≡ 0 → Refuse NoToken ≡ check r (Load c b w)
       unfolding check
-      load-no-token none = let none : held (cell_at r b c) ≡ 0 = sym (held-is state tokens) ∙ none in search (table, sym off-is ∙ on-rack) depth 10
+      load_no_token none = let none : held (cell_at r b c) ≡ 0 = sym (held_is state tokens) ∙ none in search (table, sym off-is ∙ on_rack) depth 10
 
-      pub load-no-data : (h ≡ 0 → ⊥) → not m.valid ≡ true → Refuse NoData ≡ check r (Load c b w)
+      pub load_no_data : (h ≡ 0 → ⊥) → not m.valid ≡ true → Refuse NoData ≡ check r (Load c b w)
       unfolding check
-      load-no-data some stale =
-          let some : held (cell_at r b c) ≡ 0 → ⊥ = λ e. some (held-is state tokens ∙ e) in
+      load_no_data some stale =
+          let some : held (cell_at r b c) ≡ 0 → ⊥ = λ e. some (held_is state tokens ∙ e) in
           let stale : (cell_at r b c).valid ≡ false = sym state.valid ∙ not-true _ stale in
-          search (table, sym off-is ∙ on-rack) depth 10
+          search (table, sym off-is ∙ on_rack) depth 10
 
-      pub load-pass : (h ≡ 0 → ⊥) → not m.valid ≡ false → Pass ≡ check r (Load c b w)
+      pub load_pass : (h ≡ 0 → ⊥) → not m.valid ≡ false → Pass ≡ check r (Load c b w)
       unfolding check
-      load-pass some valid =
-          let some : held (cell_at r b c) ≡ 0 → ⊥ = λ e. some (held-is state tokens ∙ e) in
+      load_pass some valid =
+          let some : held (cell_at r b c) ≡ 0 → ⊥ = λ e. some (held_is state tokens ∙ e) in
           let valid : (cell_at r b c).valid ≡ true = sym state.valid ∙ not-false _ valid in
-          search (table, sym off-is ∙ on-rack) depth 10
+          search (table, sym off-is ∙ on_rack) depth 10
 
     module _ (v : ℕ) {home : Bool} (home-is : home ≡ eqb c 0) where
-      pub store-home : home ≡ true → Refuse Home ≡ check r (Store c b w v)
+      pub store_home : home ≡ true → Refuse Home ≡ check r (Store c b w v)
       unfolding check
-      store-home at_home = search (table, sym off-is ∙ on-rack, sym home-is ∙ at_home) depth 10
+      store_home at_home = search (table, sym off-is ∙ on_rack, sym home-is ∙ at_home) depth 10
 
       module _ (away : home ≡ false) {m : TokenState} (state : TokenStateOf (cell_at r b c) m) {h : ℕ} (tokens : h ≡ m.plain + owners m.owner) {t : ℕ} (all : r.tokens ≡ t) where
-        pub store-short : h < t → Refuse Short ≡ check r (Store c b w v)
+        pub store_short : h < t → Refuse Short ≡ check r (Store c b w v)
         unfolding check
-        store-short short = let short : held (cell_at r b c) < r.tokens = omega (arith, held-is state tokens) in search (table, sym off-is ∙ on-rack, sym home-is ∙ away) depth 10
+        store_short short = let short : held (cell_at r b c) < r.tokens = omega (arith, held_is state tokens) in search (table, sym off-is ∙ on_rack, sym home-is ∙ away) depth 10
 
-        pub store-pass : t ≤ h → Pass ≡ check r (Store c b w v)
+        pub store_pass : t ≤ h → Pass ≡ check r (Store c b w v)
         unfolding check
-        store-pass has = let has : r.tokens ≤ held (cell_at r b c) = omega (arith, held-is state tokens) in search (table, sym off-is ∙ on-rack, sym home-is ∙ away) depth 10
+        store_pass has = let has : r.tokens ≤ held (cell_at r b c) = omega (arith, held_is state tokens) in search (table, sym off-is ∙ on_rack, sym home-is ∙ away) depth 10
 
 -- ---- raise and lower; send and forward off the rack
 
-module _ (r : Rack) (c b : ℕ) {off : Bool} (off-is : off ≡ offRack r c b) where
+module _ (r : Rack) (c b : ℕ) {off : Bool} (off-is : off ≡ off_rack r c b) where
   module _ (off-rack : off ≡ true) where
-    pub send-off-rack : (t p : ℕ) (o d : Bool) → Refuse OffRack ≡ check r (Send c b t p o d)
+    pub send_off_rack : (t p : ℕ) (o d : Bool) → Refuse OffRack ≡ check r (Send c b t p o d)
     unfolding check
-    send-off-rack t p o d = search (table, sym off-is ∙ off-rack) depth 10
+    send_off_rack t p o d = search (table, sym off-is ∙ off-rack) depth 10
 
-    pub forward-off-rack : Refuse OffRack ≡ check r (Forward c b)
+    pub forward_off_rack : Refuse OffRack ≡ check r (Forward c b)
     unfolding check
-    forward-off-rack = search (table, sym off-is ∙ off-rack) depth 10
+    forward_off_rack = search (table, sym off-is ∙ off-rack) depth 10
 
 -- ---- the two lines that a raise and a lower begin with
 
-module _ (r : Rack) (c b : ℕ) {off : Bool} (off-is : off ≡ offRack r c b) where
-  pub board-off-rack : off ≡ true → Refuse OffRack ≡ boardLines r c b Pass
-  unfolding boardLines
-  board-off-rack off-rack = search (table, sym off-is ∙ off-rack) depth 10
+module _ (r : Rack) (c b : ℕ) {off : Bool} (off-is : off ≡ off_rack r c b) where
+  pub board_off_rack : off ≡ true → Refuse OffRack ≡ board_lines r c b Pass
+  unfolding board_lines
+  board_off_rack off-rack = search (table, sym off-is ∙ off-rack) depth 10
 
-  module _ (on-rack : off ≡ false) {home : Bool} (home-is : home ≡ eqb c 0) where
-    pub board-home : home ≡ true → Refuse Home ≡ boardLines r c b Pass
-    unfolding boardLines
-    board-home at_home = search (table, sym off-is ∙ on-rack, sym home-is ∙ at_home) depth 10
+  module _ (on_rack : off ≡ false) {home : Bool} (home-is : home ≡ eqb c 0) where
+    pub board_home : home ≡ true → Refuse Home ≡ board_lines r c b Pass
+    unfolding board_lines
+    board_home at_home = search (table, sym off-is ∙ on_rack, sym home-is ∙ at_home) depth 10
 
-    pub board-pass : home ≡ false → Pass ≡ boardLines r c b Pass
-    unfolding boardLines
-    board-pass away = search (table, sym off-is ∙ on-rack, sym home-is ∙ away) depth 10
+    pub board_pass : home ≡ false → Pass ≡ board_lines r c b Pass
+    unfolding board_lines
+    board_pass away = search (table, sym off-is ∙ on_rack, sym home-is ∙ away) depth 10
 
-pub raise-lines : (r : Rack) (c b : ℕ) → boardLines r c b (raiseCheck (claimsAt r b) c) ≡ check r (Raise c b)
-unfolding check boardLines
-raise-lines r c b = refl
+pub raise_lines : (r : Rack) (c b : ℕ) → board_lines r c b (raise_check (claims_at r b) c) ≡ check r (Raise c b)
+unfolding check board_lines
+raise_lines r c b = refl
 
-pub lower-lines : (r : Rack) (c b : ℕ) → boardLines r c b (lowerCheck (claimsAt r b) c) ≡ check r (Lower c b)
-unfolding check boardLines
-lower-lines r c b = refl
+pub lower_lines : (r : Rack) (c b : ℕ) → board_lines r c b (lower_check (claims_at r b) c) ≡ check r (Lower c b)
+unfolding check board_lines
+lower_lines r c b = refl
 
 -- their verdict: where it refuses, the whole table does, and where it passes, the rest of the table is the verdict
-module _ (r : Rack) (c b : ℕ) {k : Check} {p : Bool} (is : k ≡ boardLines r c b Pass) (p-is : p ≡ isPass k) where
-  pub board-refused : (rest : Check) → not p ≡ true → k ≡ boardLines r c b rest
-  unfolding boardLines when◌refuse◌else◌
-  board-refused rest refused = by_tests (offRack r c b) (eqb c 0) is
+module _ (r : Rack) (c b : ℕ) {k : Check} {p : Bool} (is : k ≡ board_lines r c b Pass) (p-is : p ≡ is_pass k) where
+  pub board_refused : (rest : Check) → not p ≡ true → k ≡ board_lines r c b rest
+  unfolding board_lines when◌refuse◌else◌
+  board_refused rest refused = by_tests (off_rack r c b) (eqb c 0) is
     where
       by_tests : (off home : Bool) → k ≡ (when off refuse OffRack else when home refuse Home else Pass) → k ≡ (when off refuse OffRack else when home refuse Home else rest)
       by_tests true home e = e
       by_tests false true e = e
-      by_tests false false e = differs (sym (ap isPass e) ∙ sym p-is ∙ not-true p refused)
+      by_tests false false e = differs (sym (ap is_pass e) ∙ sym p-is ∙ not-true p refused)
 
   module _ (passed : not p ≡ false) where
-    both-fail : (off home : Bool) → k ≡ (when off refuse OffRack else when home refuse Home else Pass) → (off ≡ false) × (home ≡ false)
+    both_fail : (off home : Bool) → k ≡ (when off refuse OffRack else when home refuse Home else Pass) → (off ≡ false) × (home ≡ false)
     unfolding when◌refuse◌else◌
-    both-fail true home e = differs (sym (not-false p passed) ∙ p-is ∙ ap isPass e)
-    both-fail false true e = differs (sym (not-false p passed) ∙ p-is ∙ ap isPass e)
-    both-fail false false e = (refl, refl)
+    both_fail true home e = differs (sym (not-false p passed) ∙ p-is ∙ ap is_pass e)
+    both_fail false true e = differs (sym (not-false p passed) ∙ p-is ∙ ap is_pass e)
+    both_fail false false e = (refl, refl)
 
-    pub board-on : offRack r c b ≡ false
-    unfolding boardLines
-    board-on = (both-fail (offRack r c b) (eqb c 0) is).0
+    pub board_on : off_rack r c b ≡ false
+    unfolding board_lines
+    board_on = (both_fail (off_rack r c b) (eqb c 0) is).0
 
-    pub board-away : eqb c 0 ≡ false
-    unfolding boardLines
-    board-away = (both-fail (offRack r c b) (eqb c 0) is).1
+    pub board_away : eqb c 0 ≡ false
+    unfolding board_lines
+    board_away = (both_fail (off_rack r c b) (eqb c 0) is).1
 
-    pub board-rest : {y rest : Check} → y ≡ rest → y ≡ boardLines r c b rest
-    unfolding boardLines
-    board-rest e = search (table, board-on, board-away, e) depth 10
+    pub board_rest : {y rest : Check} → y ≡ rest → y ≡ board_lines r c b rest
+    unfolding board_lines
+    board_rest e = search (table, board_on, board_away, e) depth 10
 
 -- ---- deliver
 
 module _ (r : Rack) (i : ℕ) {n : ℕ} (flying : length r.mesh ≡ n) where
-  pub deliver-no-message : n ≤ i → Refuse NoMessage ≡ check r (Deliver i)
+  pub deliver_no_message : n ≤ i → Refuse NoMessage ≡ check r (Deliver i)
   unfolding check
-  deliver-no-message past = let past : length r.mesh ≤ i = omega arith in search table depth 10
+  deliver_no_message past = let past : length r.mesh ≤ i = omega arith in search table depth 10
 
-  pub deliver-pass : i < n → Pass ≡ check r (Deliver i)
+  pub deliver_pass : i < n → Pass ≡ check r (Deliver i)
   unfolding check
-  deliver-pass in-flight = let in-flight : i < length r.mesh = omega arith in search table depth 10
+  deliver_pass in_flight_lem = let in_flight_lem : i < length r.mesh = omega arith in search table depth 10

@@ -12,48 +12,48 @@ use Rattle.spec_base.specs.Number.{Bytes}
 use Rattle.spec_rack.specs.declared.Answer.{Answer}
 use Rattle.spec_rack.specs.declared.Reply.{Reply}
 use Rattle.spec_rack.specs.declared.Reply.TheVariants.{Accepted, Refused}
-use Rattle.spec_rack.specs.Rules.{check, answer, after, rules, replyOf}
+use Rattle.spec_rack.specs.Rules.{check, answer, after, rules, reply_of}
 use Rattle.spec_rack.specs.RecordLayout.{get, put}
 use Rattle.record.specs.Needs.{InLayout}
-use Rattle.spec_rack.proofs.GetPut.{put-get}
-use Rattle.record.proofs.FieldAccess.{wellFormed}
-use Rattle.spec_rack.specs.Entries.{replyToStep, bufferAfter}
-use Rattle.step_checks.specs.Checked.{isPass}
+use Rattle.spec_rack.proofs.GetPut.{put_get}
+use Rattle.record.proofs.FieldAccess.{well_formed}
+use Rattle.spec_rack.specs.Entries.{reply_to_step, buffer_after}
+use Rattle.step_checks.specs.Checked.{is_pass}
 
 module _ (s : List ℕ) (t : Step) where
   -- the reply of each line
-  pub refused-is : {n : Refusal} → Refuse n ≡ check (get s) t → Refused n ≡ replyToStep s t
+  pub refused_is : {n : Refusal} → Refuse n ≡ check (get s) t → Refused n ≡ reply_to_step s t
   unfolding rules
-  refused-is e = rw (sym e)
+  refused_is e = rw (sym e)
 
-  pub accepted-is : {a : Answer} → Pass ≡ check (get s) t → a ≡ answer (get s) t → Accepted a ≡ replyToStep s t
+  pub accepted_is : {a : Answer} → Pass ≡ check (get s) t → a ≡ answer (get s) t → Accepted a ≡ reply_to_step s t
   unfolding rules
-  accepted-is e d = rw (sym e) (ap Accepted d)
+  accepted_is e d = rw (sym e) (ap Accepted d)
 
   -- what is written where the check passes
-  pub written_is : (s₁ : List ℕ) → check (get s) t ≡ Pass → s₁ ≡ put (after (get s) t) s → s₁ ≡ bufferAfter s t
+  pub written_is : (s₁ : List ℕ) → check (get s) t ≡ Pass → s₁ ≡ put (after (get s) t) s → s₁ ≡ buffer_after s t
   unfolding rules
   written_is s₁ e h = rw e h
 
   -- a verdict that passes
-  pub passes : (k : Check) {p : Bool} → k ≡ check (get s) t → p ≡ isPass k → p ≡ true → check (get s) t ≡ Pass
+  pub passes : (k : Check) {p : Bool} → k ≡ check (get s) t → p ≡ is_pass k → p ≡ true → check (get s) t ≡ Pass
   passes Pass e f g = sym e
   passes (Refuse n) e f g = cc
 
   -- the two ends of a step: it is made, or refused
-  pub made : {a : Answer} → a ≡ answer (get s) t → (s₁ : List ℕ) → check (get s) t ≡ Pass → s₁ ≡ put (after (get s) t) s → (Accepted a ≡ replyToStep s t) × (s₁ ≡ bufferAfter s t)
-  made given s₁ e h = (accepted-is (sym e) given, written_is s₁ e h)
+  pub made : {a : Answer} → a ≡ answer (get s) t → (s₁ : List ℕ) → check (get s) t ≡ Pass → s₁ ≡ put (after (get s) t) s → (Accepted a ≡ reply_to_step s t) × (s₁ ≡ buffer_after s t)
+  made given s₁ e h = (accepted_is (sym e) given, written_is s₁ e h)
 
-  pub kept : (k : Check) {p : Bool} {r : Reply} → k ≡ check (get s) t → p ≡ isPass k → p ≡ false → r ≡ replyOf k → (r ≡ replyToStep s t) × (s ≡ bufferAfter s t)
+  pub kept : (k : Check) {p : Bool} {r : Reply} → k ≡ check (get s) t → p ≡ is_pass k → p ≡ false → r ≡ reply_of k → (r ≡ reply_to_step s t) × (s ≡ buffer_after s t)
   unfolding rules
   kept Pass e f g h = (cc, cc)
-  kept (Refuse n) e f g h = (h ∙ refused-is e, rw (sym e))
+  kept (Refuse n) e f g h = (h ∙ refused_is e, rw (sym e))
 
 -- a load writes nothing, which is to write the rack that is there
-pub load-leaves : (s : List ℕ) → Bytes s → InLayout s → (c b w : ℕ) → s ≡ bufferAfter s (Load c b w)
+pub load_leaves : (s : List ℕ) → Bytes s → InLayout s → (c b w : ℕ) → s ≡ buffer_after s (Load c b w)
 unfolding rules after
-load-leaves s bytes whole c b w = by-verdict (check (get s) (Load c b w)) refl
+load_leaves s bytes whole c b w = by_verdict (check (get s) (Load c b w)) refl
   where
-    by-verdict : (k : Check) → k ≡ check (get s) (Load c b w) → s ≡ bufferAfter s (Load c b w)
-    by-verdict Pass e = rw (sym e) (sym (put-get s (wellFormed s bytes whole)))
-    by-verdict (Refuse n) e = rw (sym e)
+    by_verdict : (k : Check) → k ≡ check (get s) (Load c b w) → s ≡ buffer_after s (Load c b w)
+    by_verdict Pass e = rw (sym e) (sym (put_get s (well_formed s bytes whole)))
+    by_verdict (Refuse n) e = rw (sym e)

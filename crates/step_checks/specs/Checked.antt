@@ -4,16 +4,16 @@ use Rattle.spec_wire.specs.declared.Refusal.TheVariants.{OffRack, Home}
 use Rattle.spec_wire.specs.declared.Check.{Check}
 use Rattle.spec_wire.specs.declared.Check.TheVariants.{Pass, Refuse}
 use Rattle.spec_wire.specs.Refusals.{when◌refuse◌else◌}
-use Rattle.spec_rack.specs.Rack.{Rack, isHome}
-use Rattle.spec_rack.specs.Rules.{offRack}
+use Rattle.spec_rack.specs.Rack.{Rack, is_home}
+use Rattle.spec_rack.specs.Rules.{off_rack}
 
-abbrev pub isPass : Check → Bool
-isPass Pass = true
-isPass (Refuse n) = false
+abbrev pub is_pass : Check → Bool
+is_pass Pass = true
+is_pass (Refuse n) = false
 
 -- off rack, then home, then the rest of the table
-unfoldable pub boardLines : Rack → ℕ → ℕ → Check → Check
-boardLines r c b rest =
-    when offRack r c b refuse OffRack else
-    when isHome c refuse Home else
+unfoldable pub board_lines : Rack → ℕ → ℕ → Check → Check
+board_lines r c b rest =
+    when off_rack r c b refuse OffRack else
+    when is_home c refuse Home else
     rest

@@ -4,11 +4,11 @@ ghost use Rattle.spec_wire.specs.declared.Check.TheVariants.{Pass};
 ghost use Rattle.spec_wire.specs.Refusals.{when◌refuse◌else◌};
 ghost use Rattle.spec_arbiter.specs.Boards.{empty};
 ghost use Rattle.spec_arbiter.specs.Claims.{waiting};
-ghost use Rattle.spec_rack.specs.Rack.{claimsAt};
-ghost use Rattle.spec_rack.specs.Rules.{offRack, meshFull, replyOf};
-ghost use Rattle.spec_rack.specs.RecordLayout.{blockOffset, claimsOffset, get, blocksIn};
+ghost use Rattle.spec_rack.specs.Rack.{claims_at};
+ghost use Rattle.spec_rack.specs.Rules.{off_rack, mesh_full, reply_of};
+ghost use Rattle.spec_rack.specs.RecordLayout.{block_offset, claims_offset, get, blocks_in};
 ghost use Rattle.record.specs.Needs.{InLayout};
-ghost use Rattle.step_checks.specs.Checked.{isPass, boardLines};
+ghost use Rattle.step_checks.specs.Checked.{is_pass, board_lines};
 
 use spec_rack::{
     Answer, BLOCK_COUNT_OFFSET, BLOCK_SIZE, BLOCKS_OFFSET, BOARD_COUNT_OFFSET, CLAIMS_OFFSET,
@@ -19,7 +19,7 @@ use spec_wire::{Check, Refusal};
 // Whether the component is above N or the block not below B.
 pub fn off_rack(rec: &[u8], component: u8, block: u8) -> bool
     requires { InLayout rec.now }
-    ensures { result ≡ offRack (get rec.now) component block }
+    ensures { result ≡ off_rack (get rec.now) component block }
 {
     if rec[BOARD_COUNT_OFFSET] < component {
         return true;
@@ -30,7 +30,7 @@ pub fn off_rack(rec: &[u8], component: u8, block: u8) -> bool
 // Whether the component or the block is off the rack, or the word is above 7.
 pub fn off_rack_word(rec: &[u8], component: u8, block: u8, word: u8) -> bool
     requires { InLayout rec.now }
-    ensures { result ≡ (offRack (get rec.now) component block || ltb 7 word) }
+    ensures { result ≡ (off_rack (get rec.now) component block || ltb 7 word) }
 {
     if off_rack(rec, component, block) {
         return true;
@@ -48,7 +48,7 @@ pub fn at_home(component: u8) -> bool
 // What a raise and a lower ask first: a component and a block on the rack, and no home memory.
 pub fn board_check(rec: &[u8], component: u8, block: u8) -> Check
     requires { InLayout rec.now }
-    ensures { result ≡ boardLines (get rec.now) component block Pass }
+    ensures { result ≡ board_lines (get rec.now) component block Pass }
 {
     if off_rack(rec, component, block) {
         return Check::Refuse(Refusal::OffRack);
@@ -61,15 +61,15 @@ pub fn board_check(rec: &[u8], component: u8, block: u8) -> Check
 
 // The offset of a block's claims.
 pub fn claims_offset(block: u8) -> usize
-    ensures { result ≡ blockOffset block + claimsOffset }
+    ensures { result ≡ block_offset block + claims_offset }
 {
     BLOCKS_OFFSET + BLOCK_SIZE * (block as usize) + CLAIMS_OFFSET
 }
 
 // The waiting set of a block.
 pub fn waiting_set(rec: &[u8], block: u8) -> u16
-    requires { InLayout rec.now × (block < blocksIn rec.now) }
-    ensures { result ≡ waiting (claimsAt (get rec.now) block) }
+    requires { InLayout rec.now × (block < blocks_in rec.now) }
+    ensures { result ≡ waiting (claims_at (get rec.now) block) }
 {
     arbiter::claims::waiting_at(rec, claims_offset(block))
 }
@@ -84,7 +84,7 @@ pub fn claimed(boards: u16) -> bool
 // Whether 64 messages are in flight.
 pub fn mesh_full(rec: &[u8]) -> bool
     requires { InLayout rec.now }
-    ensures { result ≡ meshFull (get rec.now) }
+    ensures { result ≡ mesh_full (get rec.now) }
 {
     MESH_LIMIT <= rec[MESSAGE_COUNT_OFFSET]
 }
@@ -101,7 +101,7 @@ pub fn line(test: bool, refusal: Refusal, below: Check) -> Check
 
 // Whether a verdict lets the step pass.
 pub fn is_pass(verdict: Check) -> bool
-    ensures { result ≡ isPass verdict }
+    ensures { result ≡ is_pass verdict }
 {
     match verdict {
         Check::Pass => true,
@@ -111,7 +111,7 @@ pub fn is_pass(verdict: Check) -> bool
 
 // The reply to a step that gives only "done".
 pub fn reply_of(verdict: Check) -> Reply
-    ensures { result ≡ replyOf verdict }
+    ensures { result ≡ reply_of verdict }
 {
     match verdict {
         Check::Pass => Reply::Accepted(Answer::Done),

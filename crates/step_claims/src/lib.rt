@@ -3,7 +3,7 @@ ghost use Rattle.std.specs.Prelude.{◌≡◌};
 ghost use Rattle.spec_rack.specs.Rules.{check};
 ghost use Rattle.spec_rack.specs.RecordLayout.{get};
 ghost use Rattle.record.specs.Needs.{InLayout, SoundRecord};
-ghost use Rattle.spec_rack.specs.Entries.{replyToStep, bufferAfter};
+ghost use Rattle.spec_rack.specs.Entries.{reply_to_step, buffer_after};
 
 use spec_rack::{Answer, BOARD_COUNT_OFFSET, Reply};
 use spec_wire::{Check, Step};
@@ -32,8 +32,8 @@ fn lower_check(rec: &[u8], component: u8, block: u8) -> Check
 
 pub fn raise(rec: &mut [u8], component: u8, block: u8) -> Reply
     requires { SoundRecord rec.old }
-    ensures reply { result ≡ replyToStep rec.old (Step.Raise component block) }
-    ensures buffer { rec.new ≡ bufferAfter rec.old (Step.Raise component block) }
+    ensures reply { result ≡ reply_to_step rec.old (Step.Raise component block) }
+    ensures buffer { rec.new ≡ buffer_after rec.old (Step.Raise component block) }
 {
     let verdict = raise_check(rec, component, block);
     if step_checks::is_pass(verdict) {
@@ -45,8 +45,8 @@ pub fn raise(rec: &mut [u8], component: u8, block: u8) -> Reply
 
 pub fn lower(rec: &mut [u8], component: u8, block: u8) -> Reply
     requires { SoundRecord rec.old }
-    ensures reply { result ≡ replyToStep rec.old (Step.Lower component block) }
-    ensures buffer { rec.new ≡ bufferAfter rec.old (Step.Lower component block) }
+    ensures reply { result ≡ reply_to_step rec.old (Step.Lower component block) }
+    ensures buffer { rec.new ≡ buffer_after rec.old (Step.Lower component block) }
 {
     let verdict = lower_check(rec, component, block);
     if step_checks::is_pass(verdict) {

@@ -1,12 +1,12 @@
 // Deliver: tokens from the mesh into a cell. Its line of the refusal table, and the change where it passes.
 ghost use Rattle.std.specs.Prelude.{◌≡◌};
 ghost use Rattle.spec_wire.specs.declared.Check.TheVariants.{Pass};
-ghost use Rattle.spec_rack.specs.Rack.{cell_at, messageAt};
-ghost use Rattle.spec_rack.specs.Rules.{withTokens, check};
+ghost use Rattle.spec_rack.specs.Rack.{cell_at, message_at};
+ghost use Rattle.spec_rack.specs.Rules.{with_tokens, check};
 ghost use Rattle.spec_rack.specs.RecordLayout.{get, put};
 ghost use Rattle.record.specs.Needs.{SoundRecord};
-ghost use Rattle.spec_rack.specs.Entries.{replyToStep, bufferAfter};
-ghost use Rattle.record.specs.Changes.{replaceCell};
+ghost use Rattle.spec_rack.specs.Entries.{reply_to_step, buffer_after};
+ghost use Rattle.record.specs.Changes.{replace_cell};
 ghost use Rattle.step_deliver.specs.Filling.{CanFill};
 
 use spec_rack::{Answer, MESSAGE_COUNT_OFFSET, MessageHeader, Reply};
@@ -15,7 +15,7 @@ use spec_wire::{Refusal, Step};
 // Gives the target what the message at a position brings: its words where it has data, and its tokens.
 fn fill_target(rec: &mut [u8], position: u8, header: MessageHeader)
     requires { CanFill rec.old position header }
-    ensures { rec.new ≡ put (replaceCell (get rec.old) header.block header.target (withTokens (cell_at (get rec.old) header.block header.target) (messageAt (get rec.old) position))) rec.old }
+    ensures { rec.new ≡ put (replace_cell (get rec.old) header.block header.target (with_tokens (cell_at (get rec.old) header.block header.target) (message_at (get rec.old) position))) rec.old }
 {
     let block = header.block;
     let target = header.target;
@@ -29,8 +29,8 @@ fn fill_target(rec: &mut [u8], position: u8, header: MessageHeader)
 // Fills the target, then takes the message out of the mesh: the removal moves other messages over its words. The reply is of the message that was there.
 fn deliver_message(rec: &mut [u8], position: u8) -> Reply
     requires { SoundRecord rec.old × (check (get rec.old) (Step.Deliver position) ≡ Pass) }
-    ensures reply { result ≡ replyToStep rec.old (Step.Deliver position) }
-    ensures buffer { rec.new ≡ bufferAfter rec.old (Step.Deliver position) }
+    ensures reply { result ≡ reply_to_step rec.old (Step.Deliver position) }
+    ensures buffer { rec.new ≡ buffer_after rec.old (Step.Deliver position) }
 {
     let header = record_mesh::header_at(rec, position);
     fill_target(rec, position, header);
@@ -44,8 +44,8 @@ fn deliver_message(rec: &mut [u8], position: u8) -> Reply
 // With both replies as arms of one `if` the compiler packs each where it is made.
 pub fn deliver(rec: &mut [u8], position: u8) -> Reply
     requires { SoundRecord rec.old }
-    ensures reply { result ≡ replyToStep rec.old (Step.Deliver position) }
-    ensures buffer { rec.new ≡ bufferAfter rec.old (Step.Deliver position) }
+    ensures reply { result ≡ reply_to_step rec.old (Step.Deliver position) }
+    ensures buffer { rec.new ≡ buffer_after rec.old (Step.Deliver position) }
 {
     if rec[MESSAGE_COUNT_OFFSET] <= position {
         Reply::Refused(Refusal::NoMessage)

@@ -5,15 +5,15 @@ use Rattle.spec_wire.specs.declared.Refusal.TheVariants.{Empty, NotHeld, BareOwn
 use Rattle.spec_wire.specs.declared.Check.{Check}
 use Rattle.spec_wire.specs.declared.Check.TheVariants.{Pass}
 use Rattle.spec_wire.specs.Refusals.{when◌refuse◌else◌}
-use Rattle.spec_rack.specs.Rack.{present, mayGoBare}
+use Rattle.spec_rack.specs.Rack.{present, may_go_bare}
 use Rattle.record.specs.declared.TokenState.{TokenState}
 
 -- to a target t
-abbrev pub tokenLines : TokenState → ℕ → ℕ → Bool → Bool → Bool → Check
-tokenLines m t p o d full =
+abbrev pub token_lines : TokenState → ℕ → ℕ → Bool → Bool → Bool → Check
+token_lines m t p o d full =
     when eqb (p + toℕ o) 0 refuse Empty else
     when ltb m.plain p || o && not (present m.owner) refuse NotHeld else
-    when o && not d && not (mayGoBare m.owner t) refuse BareOwner else
+    when o && not d && not (may_go_bare m.owner t) refuse BareOwner else
     when d && not m.valid refuse NoData else
     when full refuse MeshFull else
     Pass

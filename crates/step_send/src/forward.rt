@@ -3,7 +3,7 @@ ghost use Rattle.std.specs.Prelude.{◌≡◌};
 ghost use Rattle.spec_wire.specs.declared.Check.TheVariants.{Pass};
 ghost use Rattle.spec_rack.specs.Rules.{check, after};
 ghost use Rattle.spec_rack.specs.RecordLayout.{get, put};
-ghost use Rattle.spec_rack.specs.Entries.{replyToStep, bufferAfter};
+ghost use Rattle.spec_rack.specs.Entries.{reply_to_step, buffer_after};
 ghost use Rattle.record.specs.Needs.{InLayout, SoundRecord};
 
 use super::send::send_tokens;
@@ -50,8 +50,8 @@ fn forward_tokens(rec: &mut [u8], component: u8, block: u8)
 // A forward: refused, with nothing changed, or made.
 pub fn forward(rec: &mut [u8], component: u8, block: u8) -> Reply
     requires { SoundRecord rec.old }
-    ensures reply { result ≡ replyToStep rec.old (Step.Forward component block) }
-    ensures buffer { rec.new ≡ bufferAfter rec.old (Step.Forward component block) }
+    ensures reply { result ≡ reply_to_step rec.old (Step.Forward component block) }
+    ensures buffer { rec.new ≡ buffer_after rec.old (Step.Forward component block) }
 {
     let verdict = forward_check(rec, component, block);
     if step_checks::is_pass(verdict) {

@@ -1,13 +1,13 @@
 // Send: its lines of the refusal table, and the tokens taken and the message appended where it passes.
 ghost use Rattle.std.specs.Prelude.{◌≡◌, [], ◌∷◌, ◌++◌};
 ghost use Rattle.spec_rack.specs.Rack.{cell_at};
-ghost use Rattle.spec_rack.specs.Rules.{message, sent, check, meshFull};
+ghost use Rattle.spec_rack.specs.Rules.{message, sent, check, mesh_full};
 ghost use Rattle.spec_rack.specs.RecordLayout.{get, put};
-ghost use Rattle.spec_rack.specs.Entries.{replyToStep, bufferAfter};
+ghost use Rattle.spec_rack.specs.Entries.{reply_to_step, buffer_after};
 ghost use Rattle.record.specs.Needs.{InLayout, SoundRecord};
-ghost use Rattle.record.specs.Changes.{withMesh};
+ghost use Rattle.record.specs.Changes.{with_mesh};
 ghost use Rattle.step_checks.specs.Sendable.{CanSend};
-ghost use Rattle.step_send.specs.Lines.{tokenLines};
+ghost use Rattle.step_send.specs.Lines.{token_lines};
 
 use base::{both, either};
 use record::TokenState;
@@ -25,7 +25,7 @@ fn token_lines(
     data: bool,
 ) -> Check
     requires { InLayout rec.now }
-    ensures { result ≡ tokenLines state target plain owner «data» (meshFull (get rec.now)) }
+    ensures { result ≡ token_lines state target plain owner «data» (mesh_full (get rec.now)) }
 {
     let full = step_checks::line(step_checks::mesh_full(rec), Refusal::MeshFull, Check::Pass);
     let stale = step_checks::line(both(data, !state.valid), Refusal::NoData, full);
@@ -83,7 +83,7 @@ fn append_message(
     token: Owner,
 )
     requires { CanSend rec.old component block plain × (token ≡ (cell_at (get rec.old) block component).owner) }
-    ensures { rec.new ≡ put (withMesh (get rec.old) ((get rec.old).mesh ++ message (cell_at (get rec.old) block component) component block target plain owner «data» ∷ [])) rec.old }
+    ensures { rec.new ≡ put (with_mesh (get rec.old) ((get rec.old).mesh ++ message (cell_at (get rec.old) block component) component block target plain owner «data» ∷ [])) rec.old }
 {
     let header = MessageHeader {
         sender: component,
@@ -138,8 +138,8 @@ pub fn send(
     data: bool,
 ) -> Reply
     requires { SoundRecord rec.old }
-    ensures reply { result ≡ replyToStep rec.old (Step.Send component block target plain owner «data») }
-    ensures buffer { rec.new ≡ bufferAfter rec.old (Step.Send component block target plain owner «data») }
+    ensures reply { result ≡ reply_to_step rec.old (Step.Send component block target plain owner «data») }
+    ensures buffer { rec.new ≡ buffer_after rec.old (Step.Send component block target plain owner «data») }
 {
     let verdict = send_check(rec, component, block, target, plain, owner, data);
     if step_checks::is_pass(verdict) { // a refused send takes no token

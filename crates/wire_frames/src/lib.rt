@@ -1,13 +1,13 @@
 // A list of step records in one slice, split into frames by their lengths.
 ghost use Rattle.std.specs.Prelude.{◌≡◌, ◌+◌, ◌≤◌, ◌<◌, length, drop};
-ghost use Rattle.spec_wire.specs.Frames.{frameSize};
+ghost use Rattle.spec_wire.specs.Frames.{frame_size};
 
 use base::numbers::u16_at;
 
 // The end of the step record that starts at `at`, which is below the end of the list.
 pub fn frame_end_within(list: &[u8], at: usize) -> usize
     requires { at < length list.now }
-    ensures { (result ≡ at + frameSize (drop at list.now)) × (at < result) × (result ≤ length list.now) }
+    ensures { (result ≡ at + frame_size (drop at list.now)) × (at < result) × (result ≤ length list.now) }
 {
     let left = list.len() - at;
     if left < 3 {
@@ -22,7 +22,7 @@ pub fn frame_end_within(list: &[u8], at: usize) -> usize
 
 // As `frame_end_within`, but total: at or past the end it returns `at`.
 pub fn frame_end(list: &[u8], at: usize) -> usize
-    ensures { result ≡ at + frameSize (drop at list.now) }
+    ensures { result ≡ at + frame_size (drop at list.now) }
 {
     if at < list.len() {
         return frame_end_within(list, at);

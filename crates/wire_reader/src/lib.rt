@@ -4,7 +4,7 @@ pub mod body;
 pub mod message_body;
 
 ghost use Rattle.std.specs.Prelude.{◌≡◌};
-ghost use Rattle.spec_wire.specs.Reader.{read_body, readRecord};
+ghost use Rattle.spec_wire.specs.Reader.{read_body, read_record};
 ghost use Rattle.wire_reader.specs.Parsing.{reading_of};
 
 use body::Parsed;
@@ -40,7 +40,7 @@ fn reading_of(parsed: Parsed) -> Reading
 
 // The bytes as a step record: what they read as, still in parts.
 pub fn parse(bytes: &[u8]) -> Parsed
-    ensures { reading_of result ≡ readRecord bytes.now }
+    ensures { reading_of result ≡ read_record bytes.now }
 {
     if bytes.len() < 3 {
         return body::torn();
@@ -53,7 +53,7 @@ pub fn parse(bytes: &[u8]) -> Parsed
 
 // The step that the bytes are the step record of.
 pub fn read(bytes: &[u8]) -> Reading
-    ensures { result ≡ readRecord bytes.now }
+    ensures { result ≡ read_record bytes.now }
 {
     reading_of(parse(bytes))
 }

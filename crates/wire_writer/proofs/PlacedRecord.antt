@@ -18,21 +18,21 @@ use Rattle.spec_wire.specs.Writer.{written, placed}
 
 -- writing, where there is room and where not
 module _ (bs : List ℕ) (at : ℕ) (out : List ℕ) where
-  pub written-room : at + length bs ≤ length out → Count (length bs) ≡ written bs at out
+  pub written_room : at + length bs ≤ length out → Count (length bs) ≡ written bs at out
   unfolding written
-  written-room h = rw (le-leb (at + length bs) (length out) h)
+  written_room h = rw (le-leb (at + length bs) (length out) h)
 
-  pub written-short : length out < at + length bs → Refused ShortBuffer ≡ written bs at out
+  pub written_short : length out < at + length bs → Refused ShortBuffer ≡ written bs at out
   unfolding written
-  written-short h = rw (lt-leb (at + length bs) (length out) h)
+  written_short h = rw (lt-leb (at + length bs) (length out) h)
 
-  pub placed-room : at + length bs ≤ length out → place at bs out ≡ placed bs at out
+  pub placed_room : at + length bs ≤ length out → place at bs out ≡ placed bs at out
   unfolding placed
-  placed-room h = rw (le-leb (at + length bs) (length out) h)
+  placed_room h = rw (le-leb (at + length bs) (length out) h)
 
-  pub placed-short : length out < at + length bs → out ≡ placed bs at out
+  pub placed_short : length out < at + length bs → out ≡ placed bs at out
   unfolding placed
-  placed-short h = rw (lt-leb (at + length bs) (length out) h)
+  placed_short h = rw (lt-leb (at + length bs) (length out) h)
 
 -- writing into the rest of the buffer, lent from an offset on
 module _ (bs : List ℕ) (at : ℕ) (out : List ℕ) (within : at ≤ length out) where
@@ -42,31 +42,31 @@ module _ (bs : List ℕ) (at : ℕ) (out : List ℕ) (within : at ≤ length out
   long : length part ≡ length out - at
   long = rw (rest_all out at) (length-drop at out)
 
-  pub written-part : written bs 0 part ≡ written bs at out
-  written-part = by-room (dec_le (at + length bs) (length out))
+  pub written_part : written bs 0 part ≡ written bs at out
+  written_part = by_room (dec_le (at + length bs) (length out))
     where
-      by-room : Dec (at + length bs ≤ length out) → written bs 0 part ≡ written bs at out
-      by-room (yes h) = sym (written-room bs 0 part (omega (arith, long))) ∙ written-room bs at out h
-      by-room (no h) = sym (written-short bs 0 part (omega (arith, long, h))) ∙ written-short bs at out (omega (arith, h))
+      by_room : Dec (at + length bs ≤ length out) → written bs 0 part ≡ written bs at out
+      by_room (yes h) = sym (written_room bs 0 part (omega (arith, long))) ∙ written_room bs at out h
+      by_room (no h) = sym (written_short bs 0 part (omega (arith, long, h))) ∙ written_short bs at out (omega (arith, h))
 
-  pub placed-part : put_mid at (length out - at) out (placed bs 0 part) ≡ placed bs at out
-  placed-part = by-room (dec_le (at + length bs) (length out))
+  pub placed_part : put_mid at (length out - at) out (placed bs 0 part) ≡ placed bs at out
+  placed_part = by_room (dec_le (at + length bs) (length out))
     where
       back : List ℕ → List ℕ
       back l = put_mid at (length out - at) out l
 
-      by-room : Dec (at + length bs ≤ length out) → put_mid at (length out - at) out (placed bs 0 part) ≡ placed bs at out
-      by-room (yes h) = ap back (sym (placed-room bs 0 part (omega (arith, long)))) ∙ place_rest at bs out h ∙ placed-room bs at out h
-      by-room (no h) = ap back (sym (placed-short bs 0 part (omega (arith, long, h)))) ∙ put_same at (length out - at) out ∙ placed-short bs at out (omega (arith, h))
+      by_room : Dec (at + length bs ≤ length out) → put_mid at (length out - at) out (placed bs 0 part) ≡ placed bs at out
+      by_room (yes h) = ap back (sym (placed_room bs 0 part (omega (arith, long)))) ∙ place_rest at bs out h ∙ placed_room bs at out h
+      by_room (no h) = ap back (sym (placed_short bs 0 part (omega (arith, long, h)))) ∙ put_same at (length out - at) out ∙ placed_short bs at out (omega (arith, h))
 
-pub refused-count : {r : Refusal} {n : ℕ} → Refused r ≡ Count n → ⊥
-refused-count e = let z : ◌≡◌ {A = ℕ} 0 1 = cc in omega arith
+pub refused_count : {r : Refusal} {n : ℕ} → Refused r ≡ Count n → ⊥
+refused_count e = let z : ◌≡◌ {A = ℕ} 0 1 = cc in omega arith
 
 -- The count that writing gives is the record's length.
 pub written_count : (bs : List ℕ) (at : ℕ) (out : List ℕ) (n : ℕ) → Count n ≡ written bs at out → n ≡ length bs
 unfolding written
-written_count bs at out n e = by-room (room_for bs at out) e
+written_count bs at out n e = by_room (room_for bs at out) e
   where
-    by-room : (t : Bool) → Count n ≡ cond t (Count (length bs)) (Refused ShortBuffer) → n ≡ length bs
-    by-room true r = cc
-    by-room false r = absurd (refused-count (sym r))
+    by_room : (t : Bool) → Count n ≡ cond t (Count (length bs)) (Refused ShortBuffer) → n ≡ length bs
+    by_room true r = cc
+    by_room false r = absurd (refused_count (sym r))

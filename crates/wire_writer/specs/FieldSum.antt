@@ -4,6 +4,6 @@ use Rattle.spec_wire.specs.declared.Field.{Field}
 use Rattle.spec_wire.specs.Kinds.{value_of}
 
 -- every field is in bounds, and n plus the fields' values is `total`
-unfoldable pub fieldsSumTo : List Field → ℕ → ℕ → List ℕ → Bool
-fieldsSumTo [] n total p = eqb n total
-fieldsSumTo (f ∷ fs) n total p = ltb (value_of f p) f.limit && fieldsSumTo fs (n + value_of f p) total p
+unfoldable pub fields_sum_to : List Field → ℕ → ℕ → List ℕ → Bool
+fields_sum_to [] n total p = eqb n total
+fields_sum_to (f ∷ fs) n total p = ltb (value_of f p) f.limit && fields_sum_to fs (n + value_of f p) total p

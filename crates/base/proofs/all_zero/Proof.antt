@@ -49,8 +49,8 @@ returns c = let s = c.before.before.before.args in
     let all : l.i ≡ s.count = omega arith in
     l.invariant.1 ∙ ap (λ (z : ℕ). all_below z (λ k. eqb (get_or s.bytes.now (s.at + k) 0) 0)) all
 
-pub all-zero-spec : {M : Type 1} → statement M
-all-zero-spec =
+pub all_zero_spec : {M : Type 1} → statement M
+all_zero_spec =
     tie.close
     (tie.spec
     invariant-loop

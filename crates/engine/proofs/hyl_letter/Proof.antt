@@ -1,5 +1,5 @@
 -- `engine::hyl_letter` meets its contract: the letter or the refusal, packed.
-use Rattle.spec_rack.specs.Results.{packedLetter}
+use Rattle.spec_rack.specs.Results.{packed_letter}
 use mathlib.Core.Path.{ap, ◌∙◌}
 use borrow.Author.Rules.{rules}
 use Rattle.engine.proofs.hyl_letter.Statement.{statement}
@@ -12,7 +12,7 @@ lettered-requires : tie.Need-lettered-requires
 lettered-requires c κs = search rules
 
 returns : tie.Need-returns
-returns c = c.lettered.ensures ∙ ap packedLetter c.before.letter.ensures
+returns c = c.lettered.ensures ∙ ap packed_letter c.before.letter.ensures
 
-pub hyl-letter-spec : {M : Type 1} → statement M
-hyl-letter-spec = tie.close (tie.spec letter-requires lettered-requires returns)
+pub hyl_letter_spec : {M : Type 1} → statement M
+hyl_letter_spec = tie.close (tie.spec letter-requires lettered-requires returns)

@@ -1,5 +1,5 @@
 -- `engine::hyl_open` meets its contract: the opening, its reply packed.
-use Rattle.spec_rack.specs.Results.{packedReply}
+use Rattle.spec_rack.specs.Results.{packed_reply}
 use mathlib.Core.Path.{ap, ◌∙◌}
 use borrow.Author.Rules.{rules}
 use Rattle.engine.proofs.hyl_open.Statement.{statement}
@@ -15,7 +15,7 @@ same_length : tie.Need-same-length
 same_length c = search rules
 
 returns : tie.Need-returns
-returns c = (c.reply.ensures ∙ ap packedReply c.before.before.before.«open».ensures.0, c.before.before.before.«open».ensures.1)
+returns c = (c.reply.ensures ∙ ap packed_reply c.before.before.before.«open».ensures.0, c.before.before.before.«open».ensures.1)
 
-pub hyl-open-spec : {M : Type 1} → statement M
-hyl-open-spec = tie.close (tie.spec open-requires reply-requires same_length returns)
+pub hyl_open_spec : {M : Type 1} → statement M
+hyl_open_spec = tie.close (tie.spec open-requires reply-requires same_length returns)

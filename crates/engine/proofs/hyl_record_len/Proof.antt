@@ -9,5 +9,5 @@ record-length-requires c κs = search rules
 returns : tie.Need-returns
 returns c = c.record-length.ensures
 
-pub hyl-record-len-spec : {M : Type 1} → statement M
-hyl-record-len-spec = tie.close (tie.spec record-length-requires returns)
+pub hyl_record_len_spec : {M : Type 1} → statement M
+hyl_record_len_spec = tie.close (tie.spec record-length-requires returns)

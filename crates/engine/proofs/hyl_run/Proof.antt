@@ -15,5 +15,5 @@ same-length-2 c = search rules
 returns : tie.Need-returns
 returns c = search rules
 
-pub hyl-run-spec : {M : Type 1} → statement M
-hyl-run-spec = tie.close (tie.spec run-requires same_length same-length-2 returns)
+pub hyl_run_spec : {M : Type 1} → statement M
+hyl_run_spec = tie.close (tie.spec run-requires same_length same-length-2 returns)

@@ -16,5 +16,5 @@ step-result-requires c κs = search rules
 same_length : tie.Need-same-length
 same_length c = search rules
 
-pub hyl-step-spec : {M : Type 1} → statement M
-hyl-step-spec = tie.close (tie.spec sound-requires step-result-requires same_length returns)
+pub hyl_step_spec : {M : Type 1} → statement M
+hyl_step_spec = tie.close (tie.spec sound-requires step-result-requires same_length returns)

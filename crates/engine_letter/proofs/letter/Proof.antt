@@ -6,9 +6,9 @@ use lib.Dec.{ltb, leb}
 use lib.ListN.{get_or}
 use borrow.Author.Rules.{rules}
 use borrow.Author.Tests.{not-true, not-false}
-use Rattle.spec_rack.specs.Soundness.{soundBytes}
+use Rattle.spec_rack.specs.Soundness.{sound_bytes}
 use Rattle.engine_letter.proofs.LetterCell.{Whole, whole}
-use Rattle.engine_letter.proofs.LetterLaws.{letter-unsound, letter-off-rack, on-rack, letter-home, letter-mark, letter-dirty, letter-read}
+use Rattle.engine_letter.proofs.LetterLaws.{letter_unsound, letter_off_rack, on_rack, letter_home, letter_mark, letter_dirty, letter_read}
 use Rattle.engine_letter.proofs.letter.Statement.{statement}
 use Rattle.engine_letter.proofs.letter.Tie as tie
 use Rattle.engine_letter.proofs.letter.Reads as reads
@@ -17,11 +17,11 @@ use Rattle.base.proofs.either.Reads as either-reads
 use Rattle.base.proofs.wide_at.Reads as byte-Reads
 use Rattle.engine_letter.proofs.letter_at.Reads as letter-at-reads
 use Rattle.record_soundness.proofs.sound.Reads as sound-reads
-use Rattle.spec_rack.specs.RecordLayout.{blocksIn, boardsIn}
+use Rattle.spec_rack.specs.RecordLayout.{blocks_in, boards_in}
 
 -- past the first test the record is sound
 sure : (c : lts.Else1 (sound-reads.Asked, sound-reads.Learnt, byte-Reads.Asked, byte-Reads.Learnt, either-reads.Asked, either-reads.Learnt, letter-at-reads.Asked, letter-at-reads.Learnt) reads.Pre reads.Post)
-    → soundBytes c.before.before.before.args.rec.now ≡ true
+    → sound_bytes c.before.before.before.args.rec.now ≡ true
 sure c = sym c.before.sound.ensures ∙ not-false _ c.if1.false
 
 fine : (c : lts.Else1 (sound-reads.Asked, sound-reads.Learnt, byte-Reads.Asked, byte-Reads.Learnt, either-reads.Asked, either-reads.Learnt, letter-at-reads.Asked, letter-at-reads.Learnt) reads.Pre reads.Post)
@@ -31,19 +31,19 @@ fine c = whole c.before.before.before.args.rec.now (λ k. (c.before.before.share
 -- what the second test tells
 test : (c : lts.After-either (sound-reads.Asked, sound-reads.Learnt, byte-Reads.Asked, byte-Reads.Learnt, either-reads.Asked, either-reads.Learnt, letter-at-reads.Asked, letter-at-reads.Learnt) reads.Pre reads.Post) →
     let s = c.before.before.before.before.before.before in
-    c.either.result ≡ (ltb (boardsIn s.args.rec.now) s.args.component || leb (blocksIn s.args.rec.now) s.args.block)
+    c.either.result ≡ (ltb (boards_in s.args.rec.now) s.args.component || leb (blocks_in s.args.rec.now) s.args.block)
 test c = c.either.ensures ∙ (λ i. ltb (c.before.before.wide_at.ensures.0 i) c.before.before.before.before.before.before.args.component || leb (c.before.wide-at2.ensures.0 i) c.before.before.before.before.before.before.args.block)
 
 on : (c : lts.Else2 (sound-reads.Asked, sound-reads.Learnt, byte-Reads.Asked, byte-Reads.Learnt, either-reads.Asked, either-reads.Learnt, letter-at-reads.Asked, letter-at-reads.Learnt) reads.Pre reads.Post) →
     let s = c.before.before.before.before.before.before.before in
-    (ltb (boardsIn s.args.rec.now) s.args.component || leb (blocksIn s.args.rec.now) s.args.block) ≡ false
+    (ltb (boards_in s.args.rec.now) s.args.component || leb (blocks_in s.args.rec.now) s.args.block) ≡ false
 on c = sym (test c.before) ∙ c.if2.false
 
 sound-requires : tie.Need-sound-requires
 sound-requires c κs = search rules
 
 returns : tie.Need-returns
-returns c = letter-unsound _ _ _ (sym c.before.sound.ensures ∙ not-true _ c.if1.true)
+returns c = letter_unsound _ _ _ (sym c.before.sound.ensures ∙ not-true _ c.if1.true)
 
 wide-at-requires : tie.Need-wide-at-requires
 wide-at-requires c κs = omega (arith, (fine c).room)
@@ -57,18 +57,18 @@ either-requires c κs = search rules
 returns-2 : tie.Need-returns-2
 returns-2 c =
     let s = c.before.before.before.before.before.before.before in
-    letter-off-rack s.args.rec.now s.args.component s.args.block (sure c.before.before.before.before) (sym (test c.before) ∙ c.if2.true)
+    letter_off_rack s.args.rec.now s.args.component s.args.block (sure c.before.before.before.before) (sym (test c.before) ∙ c.if2.true)
 
 returns-3 : tie.Need-returns-3
 returns-3 c =
     let s = c.before.before.before.before.before.before.before.before in
-    letter-home s.args.rec.now s.args.component s.args.block (sure c.before.before.before.before.before) (on c.before) c.if3.true
+    letter_home s.args.rec.now s.args.component s.args.block (sure c.before.before.before.before.before) (on c.before) c.if3.true
 
 -- The letter stands before what its reading asks for, so that a letter read at another place is refused there first.
 returns-4 : tie.Need-returns-4
 returns-4 c =
     let s = c.before.before.before.before.before.before.before.before.before in
-    letter-read s.args.rec.now s.args.component s.args.block (sure c.before.before.before.before.before.before) (on c.before.before) (fine c.before.before.before.before.before.before).wellFormed.bytes c.letter_at.result c.before.if3.false c.letter_at.ensures
+    letter_read s.args.rec.now s.args.component s.args.block (sure c.before.before.before.before.before.before) (on c.before.before) (fine c.before.before.before.before.before.before).well_formed.bytes c.letter_at.result c.before.if3.false c.letter_at.ensures
 
 mul_at : tie.Need-overflow-mul-at
 mul_at c = search rules
@@ -83,14 +83,14 @@ letter-at-requires : tie.Need-letter-at-requires
 letter-at-requires c κs =
     let s = c.before.before.before.before.before.before.before.before in
     let sized = fine c.before.before.before.before.before in
-    let within = on-rack s.args.rec.now s.args.component s.args.block (sure c.before.before.before.before.before) (on c.before) in (
+    let within = on_rack s.args.rec.now s.args.component s.args.block (sure c.before.before.before.before.before) (on c.before) in (
       omega arith,
-      letter-mark s.args.rec.now s.args.component s.args.block (sure c.before.before.before.before.before) (on c.before) sized.wellFormed.bytes,
-      letter-dirty s.args.rec.now s.args.component s.args.block (sure c.before.before.before.before.before) (on c.before) sized.wellFormed.bytes,
+      letter_mark s.args.rec.now s.args.component s.args.block (sure c.before.before.before.before.before) (on c.before) sized.well_formed.bytes,
+      letter_dirty s.args.rec.now s.args.component s.args.block (sure c.before.before.before.before.before) (on c.before) sized.well_formed.bytes,
     )
 
-pub letter-spec : {M : Type 1} → statement M
-letter-spec =
+pub letter_spec : {M : Type 1} → statement M
+letter_spec =
     tie.close
     (tie.spec
     sound-requires

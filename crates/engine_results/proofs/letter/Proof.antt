@@ -1,6 +1,6 @@
 -- `engine_results::letter` meets its contract: each arm knows its letter.
 use mathlib.Core.Path.{sym, ap}
-use Rattle.spec_rack.specs.Results.{letterNumber}
+use Rattle.spec_rack.specs.Results.{letter_number}
 use borrow.Author.Rules.{rules}
 use Rattle.engine_results.proofs.letter.Statement.{statement}
 use Rattle.engine_results.proofs.letter.Tie as tie
@@ -21,22 +21,22 @@ enum-told-5 : tie.Need-enum-told-5
 enum-told-5 c = search rules
 
 returns : tie.Need-returns
-returns c = sym (ap letterNumber c.enum_told.given.1)
+returns c = sym (ap letter_number c.enum_told.given.1)
 
 returns-2 : tie.Need-returns-2
-returns-2 c = sym (ap letterNumber c.enum-told2.given.1)
+returns-2 c = sym (ap letter_number c.enum-told2.given.1)
 
 returns-3 : tie.Need-returns-3
-returns-3 c = sym (ap letterNumber c.enum-told3.given.1)
+returns-3 c = sym (ap letter_number c.enum-told3.given.1)
 
 returns-4 : tie.Need-returns-4
-returns-4 c = sym (ap letterNumber c.enum-told4.given.1)
+returns-4 c = sym (ap letter_number c.enum-told4.given.1)
 
 returns-5 : tie.Need-returns-5
-returns-5 c = sym (ap letterNumber c.enum-told5.given.1)
+returns-5 c = sym (ap letter_number c.enum-told5.given.1)
 
-pub letter-spec : {M : Type 1} → statement M
-letter-spec =
+pub letter_spec : {M : Type 1} → statement M
+letter_spec =
     tie.close
     (tie.spec
     enum_told

@@ -1,5 +1,5 @@
 -- `engine_results::record_length` meets its contract: the test of the count of blocks.
-use Rattle.engine_results.proofs.RecordLengths.{length_none, length-many, length-given}
+use Rattle.engine_results.proofs.RecordLengths.{length_none, length_many, length_given}
 use native.Mathlib.Omega.{arith}
 use mathlib.Core.Path.{ap, ◌∙◌}
 use Rattle.spec_wire.specs.Results.{done}
@@ -11,7 +11,7 @@ use Rattle.engine_results.proofs.record_length.Tie as tie
 returns-3 : tie.Need-returns-3
 returns-3 c =
     let s = c.before.before.before.before in
-    c.pack-done.ensures ∙ ap done c.before.record-size.ensures ∙ length-given s.args.blocks (omega arith) (omega arith)
+    c.pack-done.ensures ∙ ap done c.before.record-size.ensures ∙ length_given s.args.blocks (omega arith) (omega arith)
 
 pack-refused-requires : tie.Need-pack-refused-requires
 pack-refused-requires c κs = search rules
@@ -23,7 +23,7 @@ pack-refused-requires-2 : tie.Need-pack-refused-requires-2
 pack-refused-requires-2 c κs = search rules
 
 returns-2 : tie.Need-returns-2
-returns-2 c = c.pack-refused2.ensures ∙ length-many c.before.before.before.args.blocks (omega arith)
+returns-2 c = c.pack-refused2.ensures ∙ length_many c.before.before.before.args.blocks (omega arith)
 
 record-size-requires : tie.Need-record-size-requires
 record-size-requires c κs = search rules
@@ -31,8 +31,8 @@ record-size-requires c κs = search rules
 pack-done-requires : tie.Need-pack-done-requires
 pack-done-requires c κs = search rules
 
-pub record-length-spec : {M : Type 1} → statement M
-record-length-spec =
+pub record_length_spec : {M : Type 1} → statement M
+record_length_spec =
     tie.close
     (tie.spec
     pack-refused-requires

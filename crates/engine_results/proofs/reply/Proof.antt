@@ -1,6 +1,6 @@
 -- `engine_results::reply` meets its contract: each arm knows its reply.
 use Rattle.spec_rack.specs.declared.Reply.TheVariants.{Accepted}
-use Rattle.spec_rack.specs.Results.{packedReply}
+use Rattle.spec_rack.specs.Results.{packed_reply}
 use mathlib.Core.Path.{sym, ap, ◌∙◌}
 use borrow.Author.Rules.{rules}
 use Rattle.engine_results.proofs.reply.Statement.{statement}
@@ -37,16 +37,16 @@ returns : tie.Need-returns
 returns c = search rules
 
 returns-2 : tie.Need-returns-2
-returns-2 c = sym (ap packedReply (c.before.before.before.before.reply.given.1 ∙ ap Accepted c.before.answer.given.1))
+returns-2 c = sym (ap packed_reply (c.before.before.before.before.reply.given.1 ∙ ap Accepted c.before.answer.given.1))
 
 returns-3 : tie.Need-returns-3
-returns-3 c = c.served.ensures ∙ sym (ap packedReply (c.before.before.before.before.before.reply.given.1 ∙ ap Accepted c.before.before.answer2.given.1))
+returns-3 c = c.served.ensures ∙ sym (ap packed_reply (c.before.before.before.before.before.reply.given.1 ∙ ap Accepted c.before.before.answer2.given.1))
 
 returns-4 : tie.Need-returns-4
-returns-4 c = c.pack-refused.ensures ∙ sym (ap packedReply c.before.before.reply2.given.1)
+returns-4 c = c.pack-refused.ensures ∙ sym (ap packed_reply c.before.before.reply2.given.1)
 
-pub reply-spec : {M : Type 1} → statement M
-reply-spec =
+pub reply_spec : {M : Type 1} → statement M
+reply_spec =
     tie.close
     (tie.spec
     enum-known-reply

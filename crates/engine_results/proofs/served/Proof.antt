@@ -19,5 +19,5 @@ add-result-2 c = search rules
 returns : tie.Need-returns
 returns c = omega arith
 
-pub served-spec : {M : Type 1} → statement M
-served-spec = tie.close (tie.spec mul-result add-result mul-result-2 add-result-2 returns)
+pub served_spec : {M : Type 1} → statement M
+served_spec = tie.close (tie.spec mul-result add-result mul-result-2 add-result-2 returns)

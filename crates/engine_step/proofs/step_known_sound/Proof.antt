@@ -32,5 +32,5 @@ returns-2 c =
     let a = c.before.before.apply in
     stepped s.args.rec.now s.args.bytes.now _ p.ensures (Read p.result.step) (ap (λ (t : Bool). cond t (Read p.result.step) (Refused Torn)) (not-false p.result.ok way.if1.false)) a.result a.new.0 a.ensures.0 a.ensures.1
 
-pub step-known-sound-spec : {M : Type 1} → statement M
-step-known-sound-spec = tie.close (tie.spec parse-requires returns apply-requires same_length returns-2)
+pub step_known_sound_spec : {M : Type 1} → statement M
+step_known_sound_spec = tie.close (tie.spec parse-requires returns apply-requires same_length returns-2)

@@ -1,7 +1,7 @@
 -- `rackrun::main` is safe: the text that was placed is within its buffer.
 use mathlib.Core.Path.{sym}
 use lib.Seq.{length-take-le}
-use Rattle.rackrun_text.proofs.RunText.{placed-fits}
+use Rattle.rackrun_text.proofs.RunText.{placed_fits}
 use borrow.Author.Rules.{rules}
 use Rattle.rackrun.proofs.main.Statement.{statement}
 use Rattle.rackrun.proofs.main.Tie as tie
@@ -22,10 +22,10 @@ report-requires : tie.Need-report-requires
 report-requires c κs = search rules
 
 array-share-prefix-out : tie.Need-array-share-prefix-out
-array-share-prefix-out c = placed-fits _ _ _ _ c.report.ensures.0.0 c.report.ensures.0.1
+array-share-prefix-out c = placed_fits _ _ _ _ c.report.ensures.0.0 c.report.ensures.0.1
 
 slice-aggregate-print : tie.Need-slice-aggregate-print
-slice-aggregate-print c = sym (length-take-le _ _ (placed-fits _ _ _ _ c.before.report.ensures.0.0 c.before.report.ensures.0.1))
+slice-aggregate-print c = sym (length-take-le _ _ (placed_fits _ _ _ _ c.before.report.ensures.0.0 c.before.report.ensures.0.1))
 
 print-requires : tie.Need-print-requires
 print-requires c κs = search rules

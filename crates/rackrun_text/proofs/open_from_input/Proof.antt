@@ -1,11 +1,11 @@
 -- `rackrun_text::open_from_input` meets its contract: under three bytes the opening is torn, and else it is that of the first three.
-use Rattle.rackrun_text.proofs.RunText.{opening-torn, opening-made}
+use Rattle.rackrun_text.proofs.RunText.{opening_torn, opening_made}
 use borrow.Author.Rules.{rules}
 use Rattle.rackrun_text.proofs.open_from_input.Statement.{statement}
 use Rattle.rackrun_text.proofs.open_from_input.Tie as tie
 
 returns : tie.Need-returns
-returns c = opening-torn c.before.before.before.args.rec.now c.before.before.before.args.input.now c.if1.true
+returns c = opening_torn c.before.before.before.args.rec.now c.before.before.before.args.input.now c.if1.true
 
 wide-at-requires : tie.Need-wide-at-requires
 wide-at-requires c κs = search rules
@@ -25,10 +25,10 @@ same_length c = search rules
 returns-2 : tie.Need-returns-2
 returns-2 c =
     let s = c.before.before.before.before.before.before.before.before.before.before in
-    opening-made s.args.rec.now s.args.input.now c.before.before.before.before.before.before.before.if1.false _ _ _ c.before.before.before.before.before.wide_at.ensures.0 c.before.before.before.before.wide-at2.ensures.0 c.before.before.before.wide-at3.ensures.0 _ _ c.before.before.«open».ensures
+    opening_made s.args.rec.now s.args.input.now c.before.before.before.before.before.before.before.if1.false _ _ _ c.before.before.before.before.before.wide_at.ensures.0 c.before.before.before.before.wide-at2.ensures.0 c.before.before.before.wide-at3.ensures.0 _ _ c.before.before.«open».ensures
 
-pub open-from-input-spec : {M : Type 1} → statement M
-open-from-input-spec =
+pub open_from_input_spec : {M : Type 1} → statement M
+open_from_input_spec =
     tie.close
     (tie.spec
     returns

@@ -3,7 +3,7 @@ use borrow.Author.Rules.{rules}
 use Prim.Native.Nat.{◌-◌}
 use native.Mathlib.Omega.{arith}
 use lib.ListN.{length}
-use Rattle.rackrun_text.proofs.RunText.{cut_inside, Going, going_start, going-room, going_more, going_end}
+use Rattle.rackrun_text.proofs.RunText.{cut_inside, Going, going_start, going_room, going_more, going_end}
 use Rattle.rackrun_text.proofs.put_steps.Statement.{statement}
 use Rattle.rackrun_text.proofs.put_steps.Tie as tie
 
@@ -41,7 +41,7 @@ put-line-requires : tie.Need-put-line-requires invariant-loop decreases-loop
 put-line-requires c κs =
     let s = c.before.before.before.before.before.before.before.before.before.before.before.before in
     let l = c.before.before.before.before.before.before.before.before.loop in
-    going-room s.args.list.now 65536 s.args.rec.now s.args.out.now s.args.at l.rec l.out l.to l.place l.made l.invariant c.before.before.before.before.before.before.before.loop-test.true
+    going_room s.args.list.now 65536 s.args.rec.now s.args.out.now s.args.at l.rec l.out l.to l.place l.made l.invariant c.before.before.before.before.before.before.before.loop-test.true
 
 loop-less : tie.Need-loop-smaller invariant-loop decreases-loop
 loop-less c =
@@ -69,8 +69,8 @@ returns c =
     let l = c.before.loop in
     going_end s.args.list.now 65536 s.args.rec.now s.args.out.now s.args.at l.rec l.out l.to l.place l.made l.invariant c.loop-test.false
 
-pub put-steps-spec : {M : Type 1} → statement M
-put-steps-spec =
+pub put_steps_spec : {M : Type 1} → statement M
+put_steps_spec =
     tie.close
     (tie.spec
     invariant-loop

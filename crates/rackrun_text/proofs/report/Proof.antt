@@ -9,5 +9,5 @@ put-text-requires c κs = search rules
 returns : tie.Need-returns
 returns c = search rules
 
-pub report-spec : {M : Type 1} → statement M
-report-spec = tie.close (tie.spec put-text-requires returns)
+pub report_spec : {M : Type 1} → statement M
+report_spec = tie.close (tie.spec put-text-requires returns)

@@ -9,5 +9,5 @@ returns c = omega arith
 returns-2 : tie.Need-returns-2
 returns-2 c = omega arith
 
-pub used-input-spec : {M : Type 1} → statement M
-used-input-spec = tie.close (tie.spec returns returns-2)
+pub used_input_spec : {M : Type 1} → statement M
+used_input_spec = tie.close (tie.spec returns returns-2)

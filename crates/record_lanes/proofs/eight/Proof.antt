@@ -1,7 +1,7 @@
 -- `record_lanes::eight` meets its contract: two fours, the second above the first.
 use Prim.Native.Nat.{◌+◌, ◌*◌}
 use mathlib.Core.Path.{◌∙◌}
-use Rattle.record_lanes.proofs.LanePasses.{low-eight}
+use Rattle.record_lanes.proofs.LanePasses.{low_eight}
 use borrow.Author.Rules.{rules}
 use Rattle.record_lanes.proofs.eight.Statement.{statement}
 use Rattle.record_lanes.proofs.eight.Tie as tie
@@ -30,10 +30,10 @@ add-result c = search rules
 returns : tie.Need-returns
 returns c =
     let s = c.before.before.before in
-    (λ i. c.before.four.ensures i + c.four2.ensures i * 4294967296) ∙ low-eight s.args.s.now s.args.at
+    (λ i. c.before.four.ensures i + c.four2.ensures i * 4294967296) ∙ low_eight s.args.s.now s.args.at
 
-pub eight-spec : {M : Type 1} → statement M
-eight-spec =
+pub eight_spec : {M : Type 1} → statement M
+eight_spec =
     tie.close
     (tie.spec
     four-requires

@@ -1,7 +1,7 @@
 -- `record_lanes::four` meets its contract: four bytes, low byte first, added up by their weights.
 use Prim.Native.Nat.{◌+◌, ◌*◌}
 use mathlib.Core.Path.{◌∙◌}
-use Rattle.record_lanes.proofs.LanePasses.{low-four}
+use Rattle.record_lanes.proofs.LanePasses.{low_four}
 use borrow.Author.Rules.{rules}
 use Rattle.record_lanes.proofs.four.Statement.{statement}
 use Rattle.record_lanes.proofs.four.Tie as tie
@@ -64,10 +64,10 @@ returns c =
     let b = c.before.before.before.before.wide2.ensures.0 in
     let d = c.before.before.wide3.ensures.0 in
     let e = c.wide4.ensures.0 in
-    (λ i. a i + b i * 256 + d i * 65536 + e i * 16777216) ∙ low-four s.args.s.now s.args.at
+    (λ i. a i + b i * 256 + d i * 65536 + e i * 16777216) ∙ low_four s.args.s.now s.args.at
 
-pub four-spec : {M : Type 1} → statement M
-four-spec =
+pub four_spec : {M : Type 1} → statement M
+four_spec =
     tie.close
     (tie.spec
     shared-slice-read-wide

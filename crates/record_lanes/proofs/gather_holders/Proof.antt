@@ -16,5 +16,5 @@ eight-requires-2 c κs = search rules
 returns : tie.Need-returns
 returns c = λ i. bit_or (bit_or c.before.before.before.args.seen (c.before.eight.ensures i)) (c.eight2.ensures i)
 
-pub gather-holders-spec : {M : Type 1} → statement M
-gather-holders-spec = tie.close (tie.spec eight-requires add_eight eight-requires-2 returns)
+pub gather_holders_spec : {M : Type 1} → statement M
+gather_holders_spec = tie.close (tie.spec eight-requires add_eight eight-requires-2 returns)

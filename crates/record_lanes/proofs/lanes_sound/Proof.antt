@@ -5,19 +5,19 @@ use mathlib.Core.Path.{◌≡◌, sym, ap, ◌∙◌}
 use mathlib.Core.Bool.{◌&&◌}
 use Rattle.spec_base.specs.Folds.{all_below}
 use Rattle.spec_base.proofs.Folds.{below_none, below_next}
-use Rattle.record_lanes.specs.Lanes.{soundLane, soundLanes}
+use Rattle.record_lanes.specs.Lanes.{sound_lane, sound_lanes}
 use borrow.Author.Rules.{rules}
 use Rattle.record_lanes.proofs.lanes_sound.Statement.{statement}
 use Rattle.record_lanes.proofs.lanes_sound.Tie as tie
 
 abbrev invariant-loop : tie.invariant-loop
-invariant-loop s at fine₀ component₀ fine component = (component ≤ 16) × (fine ≡ all_below component (soundLane s at))
+invariant-loop s at fine₀ component₀ fine component = (component ≤ 16) × (fine ≡ all_below component (sound_lane s at))
 
 abbrev decreases-loop : tie.decreases-loop
 decreases-loop s at fine₀ component₀ fine component = 16 - component
 
 loop-holds : tie.Need-loop-init invariant-loop decreases-loop
-loop-holds c = (search rules, sym (below_none (soundLane c.before.args.s.now c.before.args.at)))
+loop-holds c = (search rules, sym (below_none (sound_lane c.before.args.s.now c.before.args.at)))
 
 add-lane-sound : tie.Need-overflow-add-lane-sound invariant-loop decreases-loop
 add-lane-sound c = search rules
@@ -67,17 +67,17 @@ loop-less c = search rules
 loop-again : tie.Need-loop-preserved invariant-loop decreases-loop
 loop-again c = let a = c.before.before.before.before.before.before.before.before.before.args in
     let l = c.before.before.before.before.before.before.before.loop in
-    (search rules, c.both.ensures ∙ (λ i. c.before.lane-sound.ensures i && l.invariant.1 i) ∙ sym (below_next (soundLane a.s.now a.at) l.component))
+    (search rules, c.both.ensures ∙ (λ i. c.before.lane-sound.ensures i && l.invariant.1 i) ∙ sym (below_next (sound_lane a.s.now a.at) l.component))
 
 returns : tie.Need-returns invariant-loop decreases-loop
-unfolding soundLanes
+unfolding sound_lanes
 returns c = let a = c.before.before.before.args in
     let l = c.before.loop in
     let all : l.component ≡ 16 = omega arith in
-    l.invariant.1 ∙ ap (λ (z : ℕ). all_below z (soundLane a.s.now a.at)) all
+    l.invariant.1 ∙ ap (λ (z : ℕ). all_below z (sound_lane a.s.now a.at)) all
 
-pub lanes-sound-spec : {M : Type 1} → statement M
-lanes-sound-spec =
+pub lanes_sound_spec : {M : Type 1} → statement M
+lanes_sound_spec =
     tie.close
     (tie.spec
     invariant-loop

@@ -5,8 +5,8 @@ use mathlib.Core.Path.{◌≡◌, sym, ap, ◌∙◌, subst}
 use mathlib.Core.Bool.{◌&&◌}
 use lib.Dec.{eqb}
 use Rattle.spec_base.specs.Number.{Bytes}
-use Rattle.spec_rack.specs.RecordLayout.{blockOffset}
-use Rattle.record_lanes.proofs.LanePasses.{Seeing, see-none, see-more, rooms-low, rooms-high, rooms-full}
+use Rattle.spec_rack.specs.RecordLayout.{block_offset}
+use Rattle.record_lanes.proofs.LanePasses.{Seeing, see_none, see_more, rooms_low, rooms_high, rooms_full}
 use borrow.Author.Rules.{rules}
 use Rattle.record_lanes.proofs.unused_lanes_empty.Statement.{statement}
 use Rattle.record_lanes.proofs.unused_lanes_empty.Tie as tie
@@ -19,10 +19,10 @@ abbrev decreases-loop : tie.decreases-loop
 decreases-loop s count boards low₀ high₀ b₀ low high b = count - b
 
 returns : tie.Need-returns invariant-loop decreases-loop
-returns c = let a = c.before.before.args in sym (rooms-full a.boards a.count a.s.now (omega arith))
+returns c = let a = c.before.before.args in sym (rooms_full a.boards a.count a.s.now (omega arith))
 
 loop-holds : tie.Need-loop-init invariant-loop decreases-loop
-loop-holds c = let a = c.before.before.args in (omega arith, λ bytes. (see-none a.s.now bytes 0, see-none a.s.now bytes 8))
+loop-holds c = let a = c.before.before.args in (omega arith, λ bytes. (see_none a.s.now bytes 0, see_none a.s.now bytes 8))
 
 mul_at : tie.Need-overflow-mul-at invariant-loop decreases-loop
 mul_at c = search rules
@@ -51,8 +51,8 @@ loop-again c =
     let s = c.before.before.before.before.before.before.args.s.now in (
       omega arith,
       λ bytes. (
-        see-more s bytes 0 l.b (blockOffset l.b) (omega arith) l.low c.before.gather-holders.result c.before.gather-holders.ensures (l.invariant.1 bytes).0,
-        see-more s bytes 8 l.b (blockOffset l.b + 8) (omega arith) l.high c.gather-holders2.result c.gather-holders2.ensures (l.invariant.1 bytes).1,
+        see_more s bytes 0 l.b (block_offset l.b) (omega arith) l.low c.before.gather-holders.result c.before.gather-holders.ensures (l.invariant.1 bytes).0,
+        see_more s bytes 8 l.b (block_offset l.b + 8) (omega arith) l.high c.gather-holders2.result c.gather-holders2.ensures (l.invariant.1 bytes).1,
       ),
     )
 
@@ -83,7 +83,7 @@ returns-2 c =
     let all : l.b ≡ a.count = omega arith in
     c.both.ensures
     ∙ (λ i. eqb (l.low / 2 ^ (8 * (c.before.wide.ensures.0 i + 1))) 0 && eqb l.high 0)
-    ∙ rooms-low a.s.now a.boards a.count bytes l.high (subst (λ (z : ℕ). Seeing a.s.now bytes 8 z l.high) all (l.invariant.1 bytes).1) (omega arith)
+    ∙ rooms_low a.s.now a.boards a.count bytes l.high (subst (λ (z : ℕ). Seeing a.s.now bytes 8 z l.high) all (l.invariant.1 bytes).1) (omega arith)
     l.low (subst (λ (z : ℕ). Seeing a.s.now bytes 0 z l.low) all (l.invariant.1 bytes).0)
 
 wide-requires-2 : tie.Need-wide-requires-2 invariant-loop decreases-loop
@@ -98,7 +98,7 @@ returns-3 c =
     let bytes : Bytes a.s.now = λ k. (known.shared-slice-known.given k).fits in
     let all : l.b ≡ a.count = omega arith in
     ap (λ (n : ℕ). eqb (l.high / 2 ^ (8 * (n - 7))) 0) c.wide2.ensures.0
-    ∙ rooms-high a.s.now a.boards a.count bytes l.high (subst (λ (z : ℕ). Seeing a.s.now bytes 8 z l.high) all (l.invariant.1 bytes).1) (omega arith)
+    ∙ rooms_high a.s.now a.boards a.count bytes l.high (subst (λ (z : ℕ). Seeing a.s.now bytes 8 z l.high) all (l.invariant.1 bytes).1) (omega arith)
 
 sub_used : tie.Need-overflow-sub-used invariant-loop decreases-loop
 sub_used c = search rules
@@ -112,8 +112,8 @@ cast-result c = search rules
 shr-result : tie.Need-overflow-shr-result invariant-loop decreases-loop
 shr-result c = search rules
 
-pub unused-lanes-empty-spec : {M : Type 1} → statement M
-unused-lanes-empty-spec =
+pub unused_lanes_empty_spec : {M : Type 1} → statement M
+unused_lanes_empty_spec =
     tie.close
     (tie.spec
     invariant-loop

@@ -3,10 +3,10 @@ use lib.ListN.{set}
 use mathlib.Core.List.{List}
 use Prim.Native.Nat.{ℕ, ◌+◌}
 use mathlib.Core.Path.{ap, ◌∙◌}
-use Rattle.record.proofs.FieldAccess.{wellFormed}
-use Rattle.record.proofs.FieldOffsets.{append-put}
-use Rattle.spec_base.specs.Layout.{modifyAt}
-use Rattle.spec_rack.specs.RecordLayout.{messageCountOffset, messageSize, messagesIn, message}
+use Rattle.record.proofs.FieldAccess.{well_formed}
+use Rattle.record.proofs.FieldOffsets.{append_put}
+use Rattle.spec_base.specs.Layout.{modify_at}
+use Rattle.spec_rack.specs.RecordLayout.{message_count_offset, message_size, messages_in, message}
 use borrow.Author.Rules.{rules}
 use Rattle.record_mesh.proofs.append.Statement.{statement}
 use Rattle.record_mesh.proofs.append.Tie as tie
@@ -32,12 +32,12 @@ same_length c = search rules
 returns : tie.Need-returns
 returns c = let s = c.before.before.before.before.before.before.before in
     let r = s.args.rec.now in
-    ap (λ (t : List ℕ). set t messageCountOffset (messagesIn r + 1))
-    (c.before.before.put-message.ensures ∙ ap (λ (at : ℕ). modifyAt at messageSize (message.write s.args.m) r) c.before.before.before.before.message-offset.ensures)
-    ∙ append-put r (wellFormed r (λ k. (c.before.before.before.before.before.before.slice-known.given k).fits) s.requires.0) s.args.m s.requires.1
+    ap (λ (t : List ℕ). set t message_count_offset (messages_in r + 1))
+    (c.before.before.put-message.ensures ∙ ap (λ (at : ℕ). modify_at at message_size (message.write s.args.m) r) c.before.before.before.before.message-offset.ensures)
+    ∙ append_put r (well_formed r (λ k. (c.before.before.before.before.before.before.slice-known.given k).fits) s.requires.0) s.args.m s.requires.1
 
-pub append-spec : {M : Type 1} → statement M
-append-spec =
+pub append_spec : {M : Type 1} → statement M
+append_spec =
     tie.close
     (tie.spec
     slice-read-count

@@ -1,11 +1,11 @@
 -- `record_mesh::copy_words` meets its contract: the bytes that are copied are the words that the rack then has.
 use Prim.Native.Nat.{◌+◌}
 use mathlib.Core.Path.{sym, ◌∙◌, subst}
-use Rattle.spec_rack.specs.RecordLayout.{messageWordsOffset, wordsSize}
+use Rattle.spec_rack.specs.RecordLayout.{message_words_offset, words_size}
 use Rattle.spec_base.specs.Number.{Bytes}
 use Rattle.spec_rack.specs.WordCopy.{WordsCopied}
 use Rattle.record_mesh.proofs.ByteCopies.{copied}
-use Rattle.record_mesh.proofs.WordCopies.{copied-rack, copied-words}
+use Rattle.record_mesh.proofs.WordCopies.{copied_rack, copied_words}
 use borrow.Author.Rules.{rules}
 use Rattle.record_mesh.proofs.copy_words.Statement.{statement}
 use Rattle.record_mesh.proofs.copy_words.Tie as tie
@@ -35,16 +35,16 @@ returns c =
     let bytes : Bytes s = λ k. (c.before.before.before.before.before.before.slice-known.given k).fits in
     let is =
     c.before.before.copy-bytes.ensures
-    ∙ (λ j. copied s (c.before.before.before.before.before.message-offset.ensures j + messageWordsOffset) (c.before.before.before.before.words-offset.ensures j) wordsSize) in (
+    ∙ (λ j. copied s (c.before.before.before.before.before.message-offset.ensures j + message_words_offset) (c.before.before.before.before.words-offset.ensures j) words_size) in (
       is,
       (
-        subst (WordsCopied s i b x) (sym is) (copied-words s bytes i b x st.requires),
-        is ∙ copied-rack s bytes i b x st.requires,
+        subst (WordsCopied s i b x) (sym is) (copied_words s bytes i b x st.requires),
+        is ∙ copied_rack s bytes i b x st.requires,
       ),
     )
 
-pub copy-words-spec : {M : Type 1} → statement M
-copy-words-spec =
+pub copy_words_spec : {M : Type 1} → statement M
+copy_words_spec =
     tie.close
     (tie.spec
     message-offset-requires

@@ -4,12 +4,12 @@ use native.Mathlib.Nat.{add-zero}
 use lib.ListN.{get_or}
 use lib.Dec.{eqb}
 use mathlib.Core.Path.{sym, ap, ◌∙◌}
-use Rattle.record.proofs.FieldAccess.{wellFormed}
-use Rattle.record.proofs.FieldBytes.{message-read}
-use Rattle.record.proofs.FieldOffsets.{message-at}
+use Rattle.record.proofs.FieldAccess.{well_formed}
+use Rattle.record.proofs.FieldBytes.{message_read}
+use Rattle.record.proofs.FieldOffsets.{message_at_lem}
 use Rattle.spec_base.specs.Layout.{slice}
 use Rattle.spec_rack.specs.declared.Message.{Message}
-use Rattle.spec_rack.specs.RecordLayout.{messageSize, ownerOf, message}
+use Rattle.spec_rack.specs.RecordLayout.{message_size, owner_of, message}
 use borrow.Author.Rules.{rules}
 use Rattle.record_mesh.proofs.header_at.Statement.{statement}
 use Rattle.record_mesh.proofs.header_at.Tie as tie
@@ -52,18 +52,18 @@ returns c = let s = c.before.before.before.before.before.before.before.before.be
       plain = c.before.before.before.before.byte-at4.ensures i;
       owner =
           (c.before.owner_of.ensures
-          ∙ (λ j. ownerOf (eqb (c.before.before.before.byte-at5.ensures j) 1) (eqb (c.before.before.byte-at6.ensures j) 1))) i;
+          ∙ (λ j. owner_of (eqb (c.before.before.before.byte-at5.ensures j) 1) (eqb (c.before.before.byte-at6.ensures j) 1))) i;
       «data» = eqb (c.byte-at7.ensures i) 1;
     })
     ∙ ap (λ (m : Message). m.header)
-    (sym (message-read r place.result)
-    ∙ ap (λ (k : ℕ). message.read (slice k messageSize r)) place.ensures
+    (sym (message_read r place.result)
+    ∙ ap (λ (k : ℕ). message.read (slice k message_size r)) place.ensures
     ∙ sym
-    (message-at r (wellFormed r (λ k. (c.before.before.before.before.before.before.before.before.before.shared-slice-known.given k).fits) s.requires.0) s.args.position
+    (message_at_lem r (well_formed r (λ k. (c.before.before.before.before.before.before.before.before.before.shared-slice-known.given k).fits) s.requires.0) s.args.position
     s.requires.1))
 
-pub header-at-spec : {M : Type 1} → statement M
-header-at-spec =
+pub header_at_spec : {M : Type 1} → statement M
+header_at_spec =
     tie.close
     (tie.spec
     message-offset-requires

@@ -2,11 +2,11 @@
 use lib.ListN.{set, length-set}
 use mathlib.Core.List.{List}
 use native.Mathlib.Omega.{arith}
-use Rattle.spec_rack.specs.RecordLayout.{words, messageZeroOffset, messageWordsOffset, wordsSize}
-use Rattle.spec_base.specs.Layout.{modifyAt}
+use Rattle.spec_rack.specs.RecordLayout.{words, message_zero_offset, message_words_offset, words_size}
+use Rattle.spec_base.specs.Layout.{modify_at}
 use Prim.Native.Nat.{ℕ, ◌+◌}
 use mathlib.Core.Path.{ap, ◌∙◌}
-use Rattle.record.proofs.FieldWrites.{message-write, same-three}
+use Rattle.record.proofs.FieldWrites.{message_write, same_three}
 use borrow.Author.Rules.{rules}
 use Rattle.record_mesh.proofs.put_message.Statement.{statement}
 use Rattle.record_mesh.proofs.put_message.Tie as tie
@@ -37,7 +37,7 @@ add-s-3 c = search rules
 
 slice-write-s-4 : tie.Need-slice-write-s-4
 slice-write-s-4 c = let a = c.before.before.before.before.before.before.before.args in
-    let kept = c.before.before.put-token-state.auto.0 ∙ same-three a.s.now a.at _ _ _ in
+    let kept = c.before.before.put-token-state.auto.0 ∙ same_three a.s.now a.at _ _ _ in
     omega (arith, kept)
 
 add-put-words : tie.Need-overflow-add-put-words
@@ -45,24 +45,24 @@ add-put-words c = search rules
 
 put-words-requires : tie.Need-put-words-requires
 put-words-requires c κs = let a = c.before.before.before.before.before.before.before.before.args in
-    let kept = c.before.before.before.put-token-state.auto.0 ∙ same-three a.s.now a.at _ _ _ in
+    let kept = c.before.before.before.put-token-state.auto.0 ∙ same_three a.s.now a.at _ _ _ in
     simp length-set (omega (arith, kept))
 
 same_length : tie.Need-same-length
 same_length c = let a = c.before.before.before.before.before.before.before.before.before.before.before.args in
     let t = c.before.before.before.before.before.before.put-token-state.new.0 in
-    c.before.before.put-words.auto.0 ∙ length-set t (a.at + messageZeroOffset) 0
-    ∙ c.before.before.before.before.before.before.put-token-state.auto.0 ∙ same-three a.s.now a.at _ _ _
+    c.before.before.put-words.auto.0 ∙ length-set t (a.at + message_zero_offset) 0
+    ∙ c.before.before.before.before.before.before.put-token-state.auto.0 ∙ same_three a.s.now a.at _ _ _
 
 returns : tie.Need-returns
 returns c = let s = c.before.before.before.before.before.before.before.before.before.before.before in
     let a = s.args in
     c.before.before.put-words.ensures
-    ∙ ap (λ (t : List ℕ). modifyAt (a.at + messageWordsOffset) wordsSize (words.write a.m.words) (set t (a.at + messageZeroOffset) 0)) c.before.before.before.before.before.before.put-token-state.ensures
-    ∙ message-write a.at a.m a.s.now s.requires
+    ∙ ap (λ (t : List ℕ). modify_at (a.at + message_words_offset) words_size (words.write a.m.words) (set t (a.at + message_zero_offset) 0)) c.before.before.before.before.before.before.put-token-state.ensures
+    ∙ message_write a.at a.m a.s.now s.requires
 
-pub put-message-spec : {M : Type 1} → statement M
-put-message-spec =
+pub put_message_spec : {M : Type 1} → statement M
+put_message_spec =
     tie.close
     (tie.spec
     slice-write-s

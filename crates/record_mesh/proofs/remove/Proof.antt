@@ -3,10 +3,10 @@ use lib.ListN.{set}
 use mathlib.Core.List.{List}
 use Prim.Native.Nat.{ℕ, ◌+◌, ◌*◌, ◌-◌}
 use mathlib.Core.Path.{ap, ◌∙◌}
-use Rattle.record.proofs.FieldAccess.{wellFormed}
-use Rattle.record.proofs.FieldOffsets.{removed-put}
-use Rattle.spec_base.specs.Layout.{slice, modifyAt}
-use Rattle.spec_rack.specs.RecordLayout.{messageCountOffset, messageSize, messagesIn}
+use Rattle.record.proofs.FieldAccess.{well_formed}
+use Rattle.record.proofs.FieldOffsets.{removed_put}
+use Rattle.spec_base.specs.Layout.{slice, modify_at}
+use Rattle.spec_rack.specs.RecordLayout.{message_count_offset, message_size, messages_in}
 use borrow.Author.Rules.{rules}
 use Rattle.record_mesh.proofs.remove.Statement.{statement}
 use Rattle.record_mesh.proofs.remove.Tie as tie
@@ -44,14 +44,14 @@ same_length c = search rules
 returns : tie.Need-returns
 returns c = let s = c.before.before.before.before.before.before.before in
     let r = s.args.rec.now in
-    let moved = messageSize * (messagesIn r - 1 - s.args.position) in
-    ap (λ (t : List ℕ). set t messageCountOffset (messagesIn r - 1))
+    let moved = message_size * (messages_in r - 1 - s.args.position) in
+    ap (λ (t : List ℕ). set t message_count_offset (messages_in r - 1))
     (c.before.before.copy-bytes.ensures
-    ∙ ap (λ (at : ℕ). modifyAt at moved (λ t. slice (at + messageSize) moved r) r) c.before.before.before.before.message-offset.ensures)
-    ∙ removed-put r (wellFormed r (λ k. (c.before.before.before.before.before.before.slice-known.given k).fits) s.requires.0) s.args.position s.requires.1
+    ∙ ap (λ (at : ℕ). modify_at at moved (λ t. slice (at + message_size) moved r) r) c.before.before.before.before.message-offset.ensures)
+    ∙ removed_put r (well_formed r (λ k. (c.before.before.before.before.before.before.slice-known.given k).fits) s.requires.0) s.args.position s.requires.1
 
-pub remove-spec : {M : Type 1} → statement M
-remove-spec =
+pub remove_spec : {M : Type 1} → statement M
+remove_spec =
     tie.close
     (tie.spec
     slice-read-count

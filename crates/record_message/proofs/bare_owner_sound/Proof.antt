@@ -24,6 +24,6 @@ returns c = let a = c.before.before.before.args in
     c.both.ensures
     ∙ ap (λ (n : ℕ). eqb a.owner 1 && eqb n 0) (λ i. c.before.before.wide.ensures.0 i + c.before.wide2.ensures.0 i)
 
-pub bare-owner-sound-spec : {M : Type 1} → statement M
-bare-owner-sound-spec =
+pub bare_owner_sound_spec : {M : Type 1} → statement M
+bare_owner_sound_spec =
     tie.close (tie.spec wide-requires wide-requires-2 add-both both-requires returns)

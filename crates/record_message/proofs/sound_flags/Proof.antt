@@ -6,9 +6,9 @@ use mathlib.Core.Bool.{true, false}
 use mathlib.Core.Logic.{⊎_elim}
 use lib.Dec.{leb}
 use borrow.Author.Tests.{not-true, not-false}
-use Rattle.spec_rack.specs.RecordLayout.{messageOwnerOffset}
-use Rattle.record_message.specs.Messages.{soundBareOwner}
-use Rattle.record_message.proofs.MessageLaws.{flags-bare, flags-none, flags-rest}
+use Rattle.spec_rack.specs.RecordLayout.{message_owner_offset}
+use Rattle.record_message.specs.Messages.{sound_bare_owner}
+use Rattle.record_message.proofs.MessageLaws.{flags_bare, flags_none, flags_rest}
 use borrow.Author.Rules.{rules}
 use Rattle.record_message.proofs.sound_flags.Statement.{statement}
 use Rattle.record_message.proofs.sound_flags.Tie as tie
@@ -40,8 +40,8 @@ returns c = let met = c.before.before.before.before in
     let o = met.before.before.before.byte-at2.ensures in
     let v = met.before.before.byte-at3.ensures in
     sym
-    (flags-bare a.rec.now a.at (omega (arith, o, v, c.before.before.before.if1.true))
-    ((λ i. soundBareOwner (sym o i) (sym met.before.byte-at4.ensures i) (sym c.before.before.byte-at6.ensures i))
+    (flags_bare a.rec.now a.at (omega (arith, o, v, c.before.before.before.if1.true))
+    ((λ i. sound_bare_owner (sym o i) (sym met.before.byte-at4.ensures i) (sym c.before.before.byte-at6.ensures i))
     ∙ sym c.before.bare-owner-sound.ensures ∙ not-true _ c.if2.true))
 
 wide-requires : tie.Need-wide-requires
@@ -58,7 +58,7 @@ returns-2 c = let met = c.before.before.before.before in
     let a = met.before.before.before.before.before.before.args in
     let p = met.before.before.before.before.byte_at.ensures in
     let o = met.before.before.before.byte-at2.ensures in
-    sym (flags-none a.rec.now a.at (omega (arith, p, o, c.before.before.wide.ensures.0, c.before.wide2.ensures.0)))
+    sym (flags_none a.rec.now a.at (omega (arith, p, o, c.before.before.wide.ensures.0, c.before.wide2.ensures.0)))
 
 wide-requires-3 : tie.Need-wide-requires-3
 wide-requires-3 c κs = search rules
@@ -86,17 +86,17 @@ returns-3 c = let met = c.before.before.before.before.before.before.before in
     let z = met.byte-at5.ensures in
     let held = c.before.before.before.before.wide2.ensures.0 in
     (λ i. leb ((c.before.before.wide3.ensures.0 ∙ d) i + (c.before.wide4.ensures.0 ∙ z) i * 256) ((c.wide5.ensures.0 ∙ o) i))
-    ∙ flags-rest a.rec.now a.at (met.before.before.before.before.before.shared-slice-known.given (a.at + messageOwnerOffset)).fits
+    ∙ flags_rest a.rec.now a.at (met.before.before.before.before.before.shared-slice-known.given (a.at + message_owner_offset)).fits
     (λ less.
     ⊎_elim
     (λ w.
-    (λ i. soundBareOwner (sym o i) (sym d i) (sym w.1.ensures i)) ∙ sym w.2.ensures ∙ not-false _ w.3.left)
+    (λ i. sound_bare_owner (sym o i) (sym d i) (sym w.1.ensures i)) ∙ sym w.2.ensures ∙ not-false _ w.3.left)
     (λ w. absurd (omega (arith, o, v, less, w.left)))
     c.before.before.before.before.before.before.if1.branch)
     (λ e. c.before.before.before.if3.false (omega (arith, p, o, e, held, c.before.before.before.before.before.wide.ensures.0)))
 
-pub sound-flags-spec : {M : Type 1} → statement M
-sound-flags-spec =
+pub sound_flags_spec : {M : Type 1} → statement M
+sound_flags_spec =
     tie.close
     (tie.spec
     byte-at-requires

@@ -27,8 +27,8 @@ returns : tie.Need-returns
 returns c = let e = rw (add-zero c.before.before.before.before.before.args.at) at c.before.before.before.byte_at.ensures in
     (rw (c.before.before.wide.ensures.0, c.wide2.ensures.0, e, c.before.byte-at2.ensures), omega arith)
 
-pub token-sum-spec : {M : Type 1} → statement M
-token-sum-spec =
+pub token_sum_spec : {M : Type 1} → statement M
+token_sum_spec =
     tie.close
     (tie.spec
     byte-at-requires

@@ -6,8 +6,8 @@ use borrow.Author.Tests.{not-true, not-false}
 use lib.ListN.{length}
 use Rattle.spec_wire.specs.declared.Check.TheVariants.{Pass}
 use Rattle.spec_rack.specs.Soundness.{sizes}
-use Rattle.spec_rack.specs.Opening.{openCheck}
-use Rattle.spec_rack.proofs.OpeningLaws.{open-size, open-short, open-pass, sized, open-refused, open-accepted}
+use Rattle.spec_rack.specs.Opening.{open_check}
+use Rattle.spec_rack.proofs.OpeningLaws.{open_size, open_short, open_pass, sized, open_refused, open_accepted}
 use borrow.Author.Rules.{rules}
 use Rattle.record_open.proofs.open.Statement.{statement}
 use Rattle.record_open.proofs.open.Tie as tie
@@ -16,15 +16,15 @@ use Rattle.record_open.proofs.open.Tie as tie
 range : (c : tie.Else1) → sizes c.before.before.before.args.boards c.before.before.before.args.blocks c.before.before.before.args.tokens ≡ true
 range c = sym c.before.in-range.ensures ∙ not-false _ c.if1.false
 
-pass : (c : tie.Else2) → let a = c.before.before.before.before.args in openCheck a.boards a.blocks a.tokens (length a.rec.now) ≡ Pass
-pass c = sym (open-pass _ _ _ _ (range c.before) (omega arith))
+pass : (c : tie.Else2) → let a = c.before.before.before.before.args in open_check a.boards a.blocks a.tokens (length a.rec.now) ≡ Pass
+pass c = sym (open_pass _ _ _ _ (range c.before) (omega arith))
 
 in-range-requires : tie.Need-in-range-requires
 in-range-requires c κs = search rules
 
 returns : tie.Need-returns
 returns c = let a = c.before.before.before.args in
-    let e = open-refused a.boards a.blocks a.tokens a.rec.now _ (sym (open-size _ _ _ _ (sym c.before.in-range.ensures ∙ not-true _ c.if1.true))) in
+    let e = open_refused a.boards a.blocks a.tokens a.rec.now _ (sym (open_size _ _ _ _ (sym c.before.in-range.ensures ∙ not-true _ c.if1.true))) in
     (sym e.0, sym e.1)
 
 mul-if2 : tie.Need-overflow-mul-if2
@@ -35,7 +35,7 @@ add-if2 c = search rules
 
 returns-2 : tie.Need-returns-2
 returns-2 c = let a = c.before.before.before.before.args in
-    let e = open-refused a.boards a.blocks a.tokens a.rec.now _ (sym (open-short _ _ _ _ (range c.before) (omega arith))) in
+    let e = open_refused a.boards a.blocks a.tokens a.rec.now _ (sym (open_short _ _ _ _ (range c.before) (omega arith))) in
     (sym e.0, sym e.1)
 
 write-fresh-requires : tie.Need-write-fresh-requires
@@ -48,7 +48,7 @@ same_length c = search rules
 
 returns-3 : tie.Need-returns-3
 returns-3 c = let a = c.before.before.before.before.before.before.before.before.args in
-    let e = open-accepted a.boards a.blocks a.tokens a.rec.now (pass c.before.before.before.before) in
+    let e = open_accepted a.boards a.blocks a.tokens a.rec.now (pass c.before.before.before.before) in
     (sym e.0, c.before.before.write-fresh.ensures ∙ sym e.1)
 
 pub open_spec : {M : Type 1} → statement M

@@ -4,7 +4,7 @@ use native.Mathlib.Omega.{arith}
 use mathlib.Core.Path.{◌≡◌}
 use lib.ListN.{length-set}
 use borrow.Author.Rules.{rules}
-use Rattle.record_open.proofs.FreshBytes.{opening, open_none, open_more, open_kept, open-all}
+use Rattle.record_open.proofs.FreshBytes.{opening, open_none, open_more, open_kept, open_all}
 use Rattle.record_open.proofs.write_fresh.Statement.{statement}
 use Rattle.record_open.proofs.write_fresh.Tie as tie
 
@@ -20,7 +20,7 @@ returns c =
     let s = c.before.before.before.before.before.before.before in
     let m = c.before.before.before.before.put-u32 in
     let l = c.before.loop in
-    open-all s.args.boards s.args.blocks s.args.tokens s.args.rec.now m.new.0 m.ensures s.requires.0 s.requires.4 l.b l.rec l.invariant.1 (omega arith)
+    open_all s.args.boards s.args.blocks s.args.tokens s.args.rec.now m.new.0 m.ensures s.requires.0 s.requires.4 l.b l.rec l.invariant.1 (omega arith)
 
 put-u32-requires : tie.Need-put-u32-requires invariant-loop decreases-loop
 put-u32-requires c κs = search rules
@@ -84,8 +84,8 @@ same_length c =
     let l = c.before.loop in
     open_kept s.args.boards s.args.blocks s.args.tokens s.args.rec.now m.new.0 m.ensures s.requires.0 s.requires.4 l.b l.rec l.invariant.1
 
-pub write-fresh-spec : {M : Type 1} → statement M
-write-fresh-spec =
+pub write_fresh_spec : {M : Type 1} → statement M
+write_fresh_spec =
     tie.close
     (tie.spec
     invariant-loop

@@ -2,7 +2,7 @@
 use Prim.Native.Nat.{◌≤◌, ◌-◌}
 use native.Mathlib.Omega.{arith}
 use mathlib.Core.Path.{◌≡◌, ap, ◌∙◌}
-use Rattle.spec_base.proofs.Zeros.{clearing, clear_none, clear_kept, clear-more, clear-all}
+use Rattle.spec_base.proofs.Zeros.{clearing, clear_none, clear_kept, clear_more, clear_all}
 use Rattle.record_open.proofs.zero_fill.Statement.{statement}
 use Rattle.record_open.proofs.zero_fill.Tie as tie
 
@@ -32,7 +32,7 @@ loop-less c = omega arith
 loop-again : tie.Need-loop-preserved invariant-loop decreases-loop
 loop-again c =
     let s = c.before.before in
-    (omega arith, clear-more s.args.s.now s.args.at s.args.count s.requires c.before.loop.i c.before.loop.s (omega arith) c.before.loop.invariant.1)
+    (omega arith, clear_more s.args.s.now s.args.at s.args.count s.requires c.before.loop.i c.before.loop.s (omega arith) c.before.loop.invariant.1)
 
 same_length : tie.Need-same-length invariant-loop decreases-loop
 same_length c =
@@ -43,10 +43,10 @@ returns : tie.Need-returns invariant-loop decreases-loop
 returns c =
     let s = c.before.before in
     let e : c.before.loop.i ≡ s.args.count = omega arith in
-    c.before.loop.invariant.1 ∙ ap (clearing s.args.s.now s.args.at s.args.count) e ∙ clear-all s.args.s.now s.args.at s.args.count s.requires
+    c.before.loop.invariant.1 ∙ ap (clearing s.args.s.now s.args.at s.args.count) e ∙ clear_all s.args.s.now s.args.at s.args.count s.requires
 
-pub zero-fill-spec : {M : Type 1} → statement M
-zero-fill-spec =
+pub zero_fill_spec : {M : Type 1} → statement M
+zero_fill_spec =
     tie.close
     (tie.spec
     invariant-loop

@@ -4,21 +4,21 @@ use native.Mathlib.Omega.{arith}
 use mathlib.Core.Path.{sym, ◌∙◌, subst}
 use mathlib.Core.Bool.{Bool}
 use borrow.Author.Tests.{not-true, not-false}
-use Rattle.spec_rack.specs.RecordLayout.{blockOffset}
-use Rattle.record_soundness.specs.Decision.{soundClaimsAt}
-use Rattle.record_soundness.proofs.BlockSets.{SecondPass, second-start, second-turn, second-end, second-fails, remove-less}
+use Rattle.spec_rack.specs.RecordLayout.{block_offset}
+use Rattle.record_soundness.specs.Decision.{sound_claims_at}
+use Rattle.record_soundness.proofs.BlockSets.{SecondPass, second_start, second_turn, second_end, second_fails, remove_less}
 use borrow.Author.Rules.{rules}
 use Rattle.record_soundness.proofs.barred_sound.Statement.{statement}
 use Rattle.record_soundness.proofs.barred_sound.Tie as tie
 
 abbrev invariant-loop : tie.invariant-loop
-invariant-loop rec boards blocks left₀ left = SecondPass blocks (λ b. soundClaimsAt boards rec (blockOffset b)) left
+invariant-loop rec boards blocks left₀ left = SecondPass blocks (λ b. sound_claims_at boards rec (block_offset b)) left
 
 abbrev decreases-loop : tie.decreases-loop
 decreases-loop rec boards blocks left₀ left = left
 
 loop-holds : tie.Need-loop-init invariant-loop decreases-loop
-loop-holds c = let a = c.before.args in second-start a.blocks (λ b. soundClaimsAt a.boards a.rec.now (blockOffset b))
+loop-holds c = let a = c.before.args in second_start a.blocks (λ b. sound_claims_at a.boards a.rec.now (block_offset b))
 
 choose-requires : tie.Need-choose-requires invariant-loop decreases-loop
 choose-requires c κs = search rules
@@ -42,7 +42,7 @@ returns : tie.Need-returns invariant-loop decreases-loop
 returns c = let a = c.before.before.before.before.before.before.args in
     let f = c.before.before.choose in
     let l = c.before.before.before.before.loop in
-    sym (second-fails a.blocks (λ b. soundClaimsAt a.boards a.rec.now (blockOffset b)) l.left f.result f.ensures.0 f.ensures.1 (sym c.before.sound-at.ensures ∙ not-true _ c.if1.true) l.invariant)
+    sym (second_fails a.blocks (λ b. sound_claims_at a.boards a.rec.now (block_offset b)) l.left f.result f.ensures.0 f.ensures.1 (sym c.before.sound-at.ensures ∙ not-true _ c.if1.true) l.invariant)
 
 remove-requires : tie.Need-remove-requires invariant-loop decreases-loop
 remove-requires c κs = search rules
@@ -50,23 +50,23 @@ remove-requires c κs = search rules
 loop-less : tie.Need-loop-smaller invariant-loop decreases-loop
 loop-less c = let f = c.before.before.before.choose in
     let l = c.before.before.before.before.before.loop in
-    omega (arith, c.remove.ensures, remove-less l.left f.result f.ensures.1)
+    omega (arith, c.remove.ensures, remove_less l.left f.result f.ensures.1)
 
 loop-again : tie.Need-loop-preserved invariant-loop decreases-loop
 loop-again c = let a = c.before.before.before.before.before.before.before.args in
     let f = c.before.before.before.choose in
     let l = c.before.before.before.before.before.loop in
-    let fine : ℕ → Bool = λ b. soundClaimsAt a.boards a.rec.now (blockOffset b) in
+    let fine : ℕ → Bool = λ b. sound_claims_at a.boards a.rec.now (block_offset b) in
     subst (SecondPass a.blocks fine) (sym c.remove.ensures)
-    (second-turn a.blocks fine l.left f.result f.ensures.1 (sym c.before.before.sound-at.ensures ∙ not-false _ c.before.if1.false) l.invariant)
+    (second_turn a.blocks fine l.left f.result f.ensures.1 (sym c.before.before.sound-at.ensures ∙ not-false _ c.before.if1.false) l.invariant)
 
 returns-2 : tie.Need-returns-2 invariant-loop decreases-loop
 returns-2 c = let a = c.before.before.before.args in
     let l = c.before.loop in
-    sym (second-end a.blocks (λ b. soundClaimsAt a.boards a.rec.now (blockOffset b)) l.left (omega arith) l.invariant)
+    sym (second_end a.blocks (λ b. sound_claims_at a.boards a.rec.now (block_offset b)) l.left (omega arith) l.invariant)
 
-pub barred-sound-spec : {M : Type 1} → statement M
-barred-sound-spec =
+pub barred_sound_spec : {M : Type 1} → statement M
+barred_sound_spec =
     tie.close
     (tie.spec
     invariant-loop

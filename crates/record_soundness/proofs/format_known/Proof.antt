@@ -2,8 +2,8 @@
 use Prim.Native.Nat.{◌+◌, ◌*◌}
 use mathlib.Core.Path.{sym, ap, ◌∙◌}
 use lib.Dec.{eqb}
-use Rattle.spec_base.proofs.WordBytes.{read-four, same-low-first}
-use Rattle.spec_rack.specs.RecordLayout.{formatNumber, formatMagic, formatOffset}
+use Rattle.spec_base.proofs.WordBytes.{read_four, same_low_first}
+use Rattle.spec_rack.specs.RecordLayout.{format_number, format_magic, format_offset}
 use native.Mathlib.Omega.{arith}
 use borrow.Author.Rules.{rules}
 use Rattle.record_soundness.proofs.format_known.Statement.{statement}
@@ -56,13 +56,13 @@ returns c =
     let b = c.before.before.wide-at2 in
     let d = c.before.wide-at3 in
     let e = c.wide-at4 in
-    same-low-first a.result b.result d.result e.result 0x48 0x59 0x4C formatNumber a.ensures.1 b.ensures.1 d.ensures.1 e.ensures.1
+    same_low_first a.result b.result d.result e.result 0x48 0x59 0x4C format_number a.ensures.1 b.ensures.1 d.ensures.1 e.ensures.1
     (omega arith) (omega arith) (omega arith) (omega arith)
-    ∙ ap (λ n. eqb n formatMagic)
-    ((λ i. a.ensures.0 i * 16777216 + b.ensures.0 i * 65536 + d.ensures.0 i * 256 + e.ensures.0 i) ∙ sym (read-four formatOffset s start.requires))
+    ∙ ap (λ n. eqb n format_magic)
+    ((λ i. a.ensures.0 i * 16777216 + b.ensures.0 i * 65536 + d.ensures.0 i * 256 + e.ensures.0 i) ∙ sym (read_four format_offset s start.requires))
 
-pub format-known-spec : {M : Type 1} → statement M
-format-known-spec =
+pub format_known_spec : {M : Type 1} → statement M
+format_known_spec =
     tie.close
     (tie.spec
     wide-at-requires

@@ -22,6 +22,6 @@ returns c =
     c.in-range.ensures
     ∙ (λ i. sizes (c.before.before.before.wide.ensures.0 i) (c.before.before.wide2.ensures.0 i) (c.before.wide3.ensures.0 i))
 
-pub sizes-in-range-spec : {M : Type 1} → statement M
-sizes-in-range-spec =
+pub sizes_in_range_spec : {M : Type 1} → statement M
+sizes_in_range_spec =
     tie.close (tie.spec wide-requires wide-requires-2 wide-requires-3 in-range-requires returns)

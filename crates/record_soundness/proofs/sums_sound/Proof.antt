@@ -9,23 +9,23 @@ use borrow.Author.Tests.{not-true, not-false}
 use Rattle.spec_base.specs.Folds.{all_below}
 use Rattle.spec_base.proofs.Tests.{and_left, and_right}
 use Rattle.spec_base.proofs.Folds.{below_fails}
-use Rattle.spec_rack.specs.RecordLayout.{blockOffset, claimsOffset}
-use Rattle.record_soundness.specs.Decision.{tokensTotal, soundClaimsAt}
-use Rattle.arbiter.proofs.ClaimsDecision.{unbarred, others-wait}
-use Rattle.record_soundness.proofs.BlockSets.{FirstPass, first-start, first-turn, first-end}
+use Rattle.spec_rack.specs.RecordLayout.{block_offset, claims_offset}
+use Rattle.record_soundness.specs.Decision.{tokens_total, sound_claims_at}
+use Rattle.arbiter.proofs.ClaimsDecision.{unbarred, others_wait}
+use Rattle.record_soundness.proofs.BlockSets.{FirstPass, first_start, first_turn, first_end}
 use borrow.Author.Rules.{rules}
 use Rattle.record_soundness.proofs.sums_sound.Statement.{statement}
 use Rattle.record_soundness.proofs.sums_sound.Tie as tie
 
 abbrev invariant-loop : tie.invariant-loop
 invariant-loop rec boards tokens count sums barred₀ b₀ barred b =
-    (b ≤ count) × FirstPass (λ k. tokensTotal tokens rec (blockOffset k) (get_or sums k 0)) (λ k. soundClaimsAt boards rec (blockOffset k)) b barred
+    (b ≤ count) × FirstPass (λ k. tokens_total tokens rec (block_offset k) (get_or sums k 0)) (λ k. sound_claims_at boards rec (block_offset k)) b barred
 
 abbrev decreases-loop : tie.decreases-loop
 decreases-loop rec boards tokens count sums barred₀ b₀ barred b = count - b
 
 loop-holds : tie.Need-loop-init invariant-loop decreases-loop
-loop-holds c = let a = c.before.args in (omega arith, first-start (λ k. tokensTotal a.tokens a.rec.now (blockOffset k) (get_or a.sums.now k 0)) (λ k. soundClaimsAt a.boards a.rec.now (blockOffset k)))
+loop-holds c = let a = c.before.args in (omega arith, first_start (λ k. tokens_total a.tokens a.rec.now (block_offset k) (get_or a.sums.now k 0)) (λ k. sound_claims_at a.boards a.rec.now (block_offset k)))
 
 mul_at : tie.Need-overflow-mul-at invariant-loop decreases-loop
 mul_at c = search rules
@@ -47,8 +47,8 @@ tokens-total-requires c κs = let s = c.before.before.before.before in
 returns : tie.Need-returns invariant-loop decreases-loop
 returns c = let a = c.before.before.before.before.before.before.args in
     let l = c.before.before.before.before.loop in
-    sym (below_fails (λ k. tokensTotal a.tokens a.rec.now (blockOffset k) (get_or a.sums.now k 0) && soundClaimsAt a.boards a.rec.now (blockOffset k)) a.count l.b (omega arith)
-    (and_left (tokensTotal a.tokens a.rec.now (blockOffset l.b) (get_or a.sums.now l.b 0)) (soundClaimsAt a.boards a.rec.now (blockOffset l.b)) (sym c.before.tokens-total.ensures ∙ not-true _ c.if1.true)))
+    sym (below_fails (λ k. tokens_total a.tokens a.rec.now (block_offset k) (get_or a.sums.now k 0) && sound_claims_at a.boards a.rec.now (block_offset k)) a.count l.b (omega arith)
+    (and_left (tokens_total a.tokens a.rec.now (block_offset l.b) (get_or a.sums.now l.b 0)) (sound_claims_at a.boards a.rec.now (block_offset l.b)) (sym c.before.tokens-total.ensures ∙ not-true _ c.if1.true)))
 
 add-only-boards-wait : tie.Need-overflow-add-only-boards-wait invariant-loop decreases-loop
 add-only-boards-wait c = search rules
@@ -59,9 +59,9 @@ only-boards-wait-requires c κs = search rules
 returns-2 : tie.Need-returns-2 invariant-loop decreases-loop
 returns-2 c = let a = c.before.before.before.before.before.before.before.before.args in
     let l = c.before.before.before.before.before.before.loop in
-    sym (below_fails (λ k. tokensTotal a.tokens a.rec.now (blockOffset k) (get_or a.sums.now k 0) && soundClaimsAt a.boards a.rec.now (blockOffset k)) a.count l.b (omega arith)
-    (and_right (tokensTotal a.tokens a.rec.now (blockOffset l.b) (get_or a.sums.now l.b 0)) (soundClaimsAt a.boards a.rec.now (blockOffset l.b))
-    (others-wait a.boards (blockOffset l.b + claimsOffset) a.rec.now (sym c.before.only-boards-wait.ensures ∙ not-true _ c.if2.true))))
+    sym (below_fails (λ k. tokens_total a.tokens a.rec.now (block_offset k) (get_or a.sums.now k 0) && sound_claims_at a.boards a.rec.now (block_offset k)) a.count l.b (omega arith)
+    (and_right (tokens_total a.tokens a.rec.now (block_offset l.b) (get_or a.sums.now l.b 0)) (sound_claims_at a.boards a.rec.now (block_offset l.b))
+    (others_wait a.boards (block_offset l.b + claims_offset) a.rec.now (sym c.before.only-boards-wait.ensures ∙ not-true _ c.if2.true))))
 
 add-some-barred : tie.Need-overflow-add-some-barred invariant-loop decreases-loop
 add-some-barred c = search rules
@@ -83,11 +83,11 @@ loop-again : tie.Need-loop-preserved invariant-loop decreases-loop
 loop-again c = let s = c.before.before.before.before.before.before.before.before.before.before in
     let a = s.args in
     let l = c.before.before.before.before.before.before.before.before.loop in
-    let at : ℕ = blockOffset l.b + claimsOffset in
+    let at : ℕ = block_offset l.b + claims_offset in
     let zeros : Bool = all_below 32 (λ i. eqb (get_or a.rec.now (at + i) 0) 0) in (
       omega arith,
-      subst (FirstPass (λ k. tokensTotal a.tokens a.rec.now (blockOffset k) (get_or a.sums.now k 0)) (λ k. soundClaimsAt a.boards a.rec.now (blockOffset k)) (l.b + 1)) (sym c.insert-if.ensures)
-          (first-turn (λ k. tokensTotal a.tokens a.rec.now (blockOffset k) (get_or a.sums.now k 0)) (λ k. soundClaimsAt a.boards a.rec.now (blockOffset k)) l.b l.barred c.before.some-barred.result l.invariant.1
+      subst (FirstPass (λ k. tokens_total a.tokens a.rec.now (block_offset k) (get_or a.sums.now k 0)) (λ k. sound_claims_at a.boards a.rec.now (block_offset k)) (l.b + 1)) (sym c.insert-if.ensures)
+          (first_turn (λ k. tokens_total a.tokens a.rec.now (block_offset k) (get_or a.sums.now k 0)) (λ k. sound_claims_at a.boards a.rec.now (block_offset k)) l.b l.barred c.before.some-barred.result l.invariant.1
           (sym c.before.before.before.before.before.tokens-total.ensures ∙ not-false _ c.before.before.before.before.if1.false)
           (λ e. sym (unbarred a.boards at a.rec.now s.requires.0 (omega arith) (not-false zeros (sym c.before.some-barred.ensures ∙ e)))
           ∙ sym c.before.before.before.only-boards-wait.ensures ∙ not-false _ c.before.before.if2.false)),
@@ -103,10 +103,10 @@ returns-3 c = let s = c.before.before.before.before in
     let a = s.args in
     let l = c.before.before.loop in
     let all : l.b ≡ a.count = omega arith in
-    c.barred-sound.ensures ∙ first-end (λ k. tokensTotal a.tokens a.rec.now (blockOffset k) (get_or a.sums.now k 0)) (λ k. soundClaimsAt a.boards a.rec.now (blockOffset k)) a.count l.barred s.requires.1 (subst (λ (z : ℕ). FirstPass (λ k. tokensTotal a.tokens a.rec.now (blockOffset k) (get_or a.sums.now k 0)) (λ k. soundClaimsAt a.boards a.rec.now (blockOffset k)) z l.barred) all l.invariant.1)
+    c.barred-sound.ensures ∙ first_end (λ k. tokens_total a.tokens a.rec.now (block_offset k) (get_or a.sums.now k 0)) (λ k. sound_claims_at a.boards a.rec.now (block_offset k)) a.count l.barred s.requires.1 (subst (λ (z : ℕ). FirstPass (λ k. tokens_total a.tokens a.rec.now (block_offset k) (get_or a.sums.now k 0)) (λ k. sound_claims_at a.boards a.rec.now (block_offset k)) z l.barred) all l.invariant.1)
 
-pub sums-sound-spec : {M : Type 1} → statement M
-sums-sound-spec =
+pub sums_sound_spec : {M : Type 1} → statement M
+sums_sound_spec =
     tie.close
     (tie.spec
     invariant-loop

@@ -34,8 +34,8 @@ returns : tie.Need-returns
 returns c = let a = c.before.before.before.before.args in
     λ i. eqb (c.before.before.sum16.ensures.0 i + c.before.sum162.ensures.0 i * 65536 + a.mesh) (c.wide.ensures.0 i + 65535)
 
-pub tokens-total-spec : {M : Type 1} → statement M
-tokens-total-spec =
+pub tokens_total_spec : {M : Type 1} → statement M
+tokens_total_spec =
     tie.close
     (tie.spec
     sum16-requires

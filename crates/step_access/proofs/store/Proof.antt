@@ -3,7 +3,7 @@ use native.Mathlib.Omega.{arith}
 use mathlib.Core.Path.{refl}
 use borrow.Author.Rules.{rules}
 use Rattle.spec_rack.specs.Rules.{answer, after}
-use Rattle.step_checks.proofs.CheckFacts.{store-passed}
+use Rattle.step_checks.proofs.CheckFacts.{store_passed}
 use Rattle.step_checks.proofs.StepOutcome.{passes, made, kept}
 use Rattle.step_access.proofs.store.Statement.{statement}
 use Rattle.step_access.proofs.store.Tie as tie
@@ -26,7 +26,7 @@ set-word-requires c κs =
     let k = c.before.before.before in
     let s = k.before.before.before in
     let known =
-    store-passed s.args.rec.now s.requires s.args.component s.args.block s.args.word s.args.value
+    store_passed s.args.rec.now s.requires s.args.component s.args.block s.args.word s.args.value
     (passes _ _ _ k.store-check.ensures c.before.before.is-pass.ensures c.before.if1.true) in
     (record { whole = known.0.whole; block = known.0.block; component = omega (arith, known.0.component) }, known.1.0, known.1.1)
 

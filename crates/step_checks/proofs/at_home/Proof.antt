@@ -6,5 +6,5 @@ use Rattle.step_checks.proofs.at_home.Tie as tie
 returns : tie.Need-returns
 returns c = refl
 
-pub at-home-spec : {M : Type 1} → statement M
-at-home-spec = tie.close (tie.spec returns)
+pub at_home_spec : {M : Type 1} → statement M
+at_home_spec = tie.close (tie.spec returns)

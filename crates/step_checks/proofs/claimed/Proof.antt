@@ -6,5 +6,5 @@ use Rattle.step_checks.proofs.claimed.Tie as tie
 returns : tie.Need-returns
 returns c = refl
 
-pub claimed-spec : {M : Type 1} → statement M
-claimed-spec = tie.close (tie.spec returns)
+pub claimed_spec : {M : Type 1} → statement M
+claimed_spec = tie.close (tie.spec returns)

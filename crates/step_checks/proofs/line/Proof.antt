@@ -11,5 +11,5 @@ returns-2 : tie.Need-returns-2
 unfolding when◌refuse◌else◌
 returns-2 c = rw c.if1.false
 
-pub line-spec : {M : Type 1} → statement M
-line-spec = tie.close (tie.spec returns returns-2)
+pub line_spec : {M : Type 1} → statement M
+line_spec = tie.close (tie.spec returns returns-2)

@@ -10,5 +10,5 @@ shared-slice-read-result c = search rules
 returns : tie.Need-returns
 returns c = full_is _
 
-pub mesh-full-spec : {M : Type 1} → statement M
-mesh-full-spec = tie.close (tie.spec shared-slice-read-result returns)
+pub mesh_full_spec : {M : Type 1} → statement M
+mesh_full_spec = tie.close (tie.spec shared-slice-read-result returns)

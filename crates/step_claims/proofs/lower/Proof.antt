@@ -6,8 +6,8 @@ use native.Mathlib.Omega.{arith}
 use borrow.Author.Rules.{rules}
 use Rattle.spec_arbiter.specs.Claims.{lowered}
 use Rattle.spec_rack.specs.Rules.{answer, after}
-use Rattle.step_checks.proofs.ClaimsInRecord.{claims-room, claims-form, claims-written}
-use Rattle.step_checks.proofs.CheckFacts.{lower-passed}
+use Rattle.step_checks.proofs.ClaimsInRecord.{claims_room_lem, claims_form, claims_written}
+use Rattle.step_checks.proofs.CheckFacts.{lower_passed}
 use Rattle.step_checks.proofs.StepOutcome.{passes, made, kept}
 use Rattle.step_claims.proofs.lower.Statement.{statement}
 use Rattle.step_claims.proofs.lower.Tie as tie
@@ -29,12 +29,12 @@ lower-at-requires c κs =
     let way = c.before.before.before in
     let k = way.before.before in
     let s = k.before.before.before in
-    let known = lower-passed s.args.rec.now s.requires s.args.component s.args.block (passes _ _ _ k.lower-check.ensures way.before.is-pass.ensures way.if1.true) in (
-      claims-room s.args.rec.now s.requires.whole s.args.block known.0.block c.claims-offset.result c.claims-offset.ensures,
+    let known = lower_passed s.args.rec.now s.requires s.args.component s.args.block (passes _ _ _ k.lower-check.ensures way.before.is-pass.ensures way.if1.true) in (
+      claims_room_lem s.args.rec.now s.requires.whole s.args.block known.0.block c.claims-offset.result c.claims-offset.ensures,
       omega (arith, known),
       omega (arith, known),
       omega (arith, s.requires.whole.boards),
-      claims-form s.args.rec.now s.requires.whole s.args.block known.0.block c.claims-offset.result c.claims-offset.ensures (λ i. (k.before.before.slice-known.given i).fits),
+      claims_form s.args.rec.now s.requires.whole s.args.block known.0.block c.claims-offset.result c.claims-offset.ensures (λ i. (k.before.before.slice-known.given i).fits),
     )
 
 same_length : tie.Need-same-length
@@ -48,9 +48,9 @@ returns c =
     let k = way.before.before in
     let s = k.before.before.before in
     let passed = passes _ _ _ k.lower-check.ensures way.before.is-pass.ensures way.if1.true in
-    let known = lower-passed s.args.rec.now s.requires s.args.component s.args.block passed in
+    let known = lower_passed s.args.rec.now s.requires s.args.component s.args.block passed in
     made _ _ refl _ passed
-    (claims-written s.args.rec.now s.requires.whole s.args.block known.0.block place.claims-offset.result place.claims-offset.ensures (λ i. (k.before.before.slice-known.given i).fits)
+    (claims_written s.args.rec.now s.requires.whole s.args.block known.0.block place.claims-offset.result place.claims-offset.ensures (λ i. (k.before.before.slice-known.given i).fits)
     (λ (x : List ℕ). lowered x s.args.component) c.before.before.lower-at.new.0 c.before.before.lower-at.ensures)
 
 reply-of-requires : tie.Need-reply-of-requires

@@ -6,7 +6,7 @@ use Prim.Native.Nat.{ℕ}
 use native.Mathlib.Omega.{arith}
 use lib.ListN.{length}
 use Rattle.spec_base.specs.Number.{Bytes}
-use Rattle.step_deliver.proofs.DeliveredMessage.{AfterWords, after-copy, without-copy, few, current, lone, tokens-filled}
+use Rattle.step_deliver.proofs.DeliveredMessage.{AfterWords, after_copy, without_copy, few, current, lone, tokens_filled}
 use Rattle.step_deliver.proofs.fill_target.Statement.{statement}
 use Rattle.step_deliver.proofs.fill_target.Tie as tie
 
@@ -16,7 +16,7 @@ known c = λ k. (c.before.slice-known.given k).fits
 
 -- with data they are copied, without they stay
 words-after : (c : tie.Joined1) → AfterWords c.before.before.args.rec.now (known c) c.before.before.args.position c.before.before.args.header c.before.before.requires c.if1.rec
-words-after c = ⊎_elim (λ w. search after-copy) (λ w. search without-copy) c.if1.branch
+words-after c = ⊎_elim (λ w. search after_copy) (λ w. search without_copy) c.if1.branch
 
 -- of either end of the message
 copy-words-requires : tie.Need-copy-words-requires
@@ -53,12 +53,12 @@ returns c =
     let told = sum.before in
     let met = told.before.before in
     let st = met.before.before in
-    tokens-filled st.args.rec.now (known met) st.args.position st.args.header st.requires met.if1.rec (words-after met)
+    tokens_filled st.args.rec.now (known met) st.args.position st.args.header st.requires met.if1.rec (words-after met)
     told.token-state.result told.token-state.ensures sum.with-tokens.result sum.with-tokens.ensures
     c.before.before.set-token-state.new.0 c.before.before.set-token-state.ensures
 
-pub fill-target-spec : {M : Type 1} → statement M
-fill-target-spec =
+pub fill_target_spec : {M : Type 1} → statement M
+fill_target_spec =
     tie.close
     (tie.spec
     copy-words-requires

@@ -3,8 +3,8 @@ use mathlib.Core.Path.{◌∙◌}
 use mathlib.Core.Bool.{not, ◌&&◌, ◌||◌}
 use lib.Dec.{eqb}
 use Rattle.spec_rack.specs.Rack.{present}
-use Rattle.spec_rack.specs.RecordLayout.{ownerOf, dirty as isDirty}
-use Rattle.step_tokens.proofs.TokenLaws.{joined-flags}
+use Rattle.spec_rack.specs.RecordLayout.{owner_of, dirty as isDirty}
+use Rattle.step_tokens.proofs.TokenLaws.{joined_flags}
 use borrow.Author.Rules.{rules}
 use Rattle.step_tokens.proofs.joined_owner.Statement.{statement}
 use Rattle.step_tokens.proofs.joined_owner.Tie as tie
@@ -44,13 +44,13 @@ returns c =
     let brought = c.before.before.both in
     let dirty = c.before.either2 in
     c.owner_of.ensures
-    ∙ (λ i. ownerOf (here.ensures i) (dirty.ensures i))
-    ∙ (λ i. ownerOf (present-own.ensures i || present-coming.ensures i) (dirty-own.ensures i || brought.ensures i))
-    ∙ (λ i. ownerOf (present s.args.own_val || present s.args.coming) (isDirty s.args.own_val || (dirty-coming.ensures i && not (eqb s.args.target 0))))
-    ∙ joined-flags s.args.own_val s.args.coming s.args.target s.requires
+    ∙ (λ i. owner_of (here.ensures i) (dirty.ensures i))
+    ∙ (λ i. owner_of (present-own.ensures i || present-coming.ensures i) (dirty-own.ensures i || brought.ensures i))
+    ∙ (λ i. owner_of (present s.args.own_val || present s.args.coming) (isDirty s.args.own_val || (dirty-coming.ensures i && not (eqb s.args.target 0))))
+    ∙ joined_flags s.args.own_val s.args.coming s.args.target s.requires
 
-pub joined-owner-spec : {M : Type 1} → statement M
-joined-owner-spec =
+pub joined_owner_spec : {M : Type 1} → statement M
+joined_owner_spec =
     tie.close
     (tie.spec
     is-present-requires

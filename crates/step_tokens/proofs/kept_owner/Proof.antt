@@ -9,5 +9,5 @@ returns c = search rules
 returns-2 : tie.Need-returns-2
 returns-2 c = search rules
 
-pub kept-owner-spec : {M : Type 1} → statement M
-kept-owner-spec = tie.close (tie.spec returns returns-2)
+pub kept_owner_spec : {M : Type 1} → statement M
+kept_owner_spec = tie.close (tie.spec returns returns-2)

@@ -15,5 +15,5 @@ both-requires c κs = search rules
 returns : tie.Need-returns
 returns c = c.both.ensures ∙ (λ i. c.before.is-clean.ensures i && eqb c.before.before.args.target 0)
 
-pub may-go-bare-spec : {M : Type 1} → statement M
-may-go-bare-spec = tie.close (tie.spec is-clean-requires both-requires returns)
+pub may_go_bare_spec : {M : Type 1} → statement M
+may_go_bare_spec = tie.close (tie.spec is-clean-requires both-requires returns)

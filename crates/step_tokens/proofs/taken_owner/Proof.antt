@@ -9,5 +9,5 @@ returns c = search rules
 returns-2 : tie.Need-returns-2
 returns-2 c = search rules
 
-pub taken-owner-spec : {M : Type 1} → statement M
-taken-owner-spec = tie.close (tie.spec returns returns-2)
+pub taken_owner_spec : {M : Type 1} → statement M
+taken_owner_spec = tie.close (tie.spec returns returns-2)

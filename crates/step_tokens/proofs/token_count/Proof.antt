@@ -21,5 +21,5 @@ wide-requires-2 c κs = search rules
 returns-2 : tie.Need-returns-2
 returns-2 c = omega (arith, ap toℕ c.before.if1.false)
 
-pub token-count-spec : {M : Type 1} → statement M
-token-count-spec = tie.close (tie.spec wide-requires add-result returns wide-requires-2 returns-2)
+pub token_count_spec : {M : Type 1} → statement M
+token_count_spec = tie.close (tie.spec wide-requires add-result returns wide-requires-2 returns-2)

@@ -29,8 +29,8 @@ cast-result c = search rules
 returns : tie.Need-returns
 returns c = most c.sound.result
 
-pub damaged-at-spec : {M : Type 1} → statement M
-damaged-at-spec =
+pub damaged_at_spec : {M : Type 1} → statement M
+damaged_at_spec =
     tie.close
     (tie.spec
     array-read-wrapping-add-u8

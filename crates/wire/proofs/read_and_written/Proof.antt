@@ -8,8 +8,8 @@ use Rattle.spec_wire.specs.declared.Step.{Step}
 use Rattle.spec_wire.specs.declared.Reading.TheVariants.{Step as Read, Refused}
 use Rattle.spec_wire.specs.declared.Written.{Written}
 use Rattle.spec_wire.specs.declared.Written.TheVariants.{Refused as NotWritten}
-use Rattle.spec_wire.specs.StepRecord.{stepBytes}
-use Rattle.spec_wire.specs.Reader.{readRecord}
+use Rattle.spec_wire.specs.StepRecord.{step_bytes}
+use Rattle.spec_wire.specs.Reader.{read_record}
 use Rattle.spec_wire.specs.RoundTrip.{rewritten, replaced}
 use Rattle.spec_wire.specs.Writer.{written, placed}
 use Rattle.spec_wire.proofs.RoundTrip.{written_read}
@@ -19,13 +19,13 @@ use Rattle.wire.proofs.read_and_written.Tie as tie
 
 -- the two answers of the reader
 module _ (bs out : List ℕ) where
-  again : (s : Step) {w : Written} {after : List ℕ} → Bytes bs → Read s ≡ readRecord bs
-      → w ≡ written (stepBytes s) 0 out → after ≡ placed (stepBytes s) 0 out → (w ≡ rewritten bs out) × (after ≡ replaced bs out)
+  again : (s : Step) {w : Written} {after : List ℕ} → Bytes bs → Read s ≡ read_record bs
+      → w ≡ written (step_bytes s) 0 out → after ≡ placed (step_bytes s) 0 out → (w ≡ rewritten bs out) × (after ≡ replaced bs out)
   again s b e p q =
-      let same : stepBytes s ≡ bs = written_read bs s b (sym e) in
+      let same : step_bytes s ≡ bs = written_read bs s b (sym e) in
       rw (← e) (rw same at p, rw same at q)
 
-  torn : (r : Refusal) → Refused r ≡ readRecord bs → (NotWritten r ≡ rewritten bs out) × (out ≡ replaced bs out)
+  torn : (r : Refusal) → Refused r ≡ read_record bs → (NotWritten r ≡ rewritten bs out) × (out ≡ replaced bs out)
   torn r e = rw (← e) (refl, refl)
 
 read-requires : tie.Need-read-requires
@@ -56,8 +56,8 @@ returns-2 c =
     let start = read.before.before.before in
     torn start.args.bytes.now start.args.out.now _ (sym c.before.refusal.given.1 ∙ read.read.ensures)
 
-pub read-and-written-spec : {M : Type 1} → statement M
-read-and-written-spec =
+pub read_and_written_spec : {M : Type 1} → statement M
+read_and_written_spec =
     tie.close
     (tie.spec
     read-requires

@@ -9,25 +9,25 @@ use Rattle.spec_base.specs.Number.{number}
 use Rattle.spec_wire.specs.declared.Refusal.TheVariants.{Torn}
 use Rattle.spec_wire.specs.declared.Reading.{Reading}
 use Rattle.spec_wire.specs.declared.Reading.TheVariants.{Refused}
-use Rattle.spec_wire.specs.Reader.{read_body, readRecord}
+use Rattle.spec_wire.specs.Reader.{read_body, read_record}
 use Rattle.spec_base.proofs.Lists.{rest_all}
-use Rattle.spec_base.proofs.WordBytes.{big-read}
+use Rattle.spec_base.proofs.WordBytes.{big_read}
 use borrow.Author.Rules.{rules}
 use Rattle.wire_reader.proofs.parse.Statement.{statement}
 use Rattle.wire_reader.proofs.parse.Tie as tie
 
--- what `readRecord` is, by the first test that fails, or the body
+-- what `read_record` is, by the first test that fails, or the body
 module _ (bs : List ℕ) where
-  short : length bs < 3 → Refused Torn ≡ readRecord bs
-  unfolding readRecord
+  short : length bs < 3 → Refused Torn ≡ read_record bs
+  unfolding read_record
   short h = simp (lt-leb 3 (length bs) h)
 
-  other_length : (n : ℕ) → 3 ≤ length bs → n ≡ number (take 2 (drop 1 bs)) → (n ≡ length bs - 3 → ⊥) → Refused Torn ≡ readRecord bs
-  unfolding readRecord
+  other_length : (n : ℕ) → 3 ≤ length bs → n ≡ number (take 2 (drop 1 bs)) → (n ≡ length bs - 3 → ⊥) → Refused Torn ≡ read_record bs
+  unfolding read_record
   other_length n h e k = simp (le-leb 3 (length bs) h, ← e, ne_eqb n (length bs - 3) k)
 
-  whole : (n : ℕ) {a : Reading} → 3 ≤ length bs → n ≡ number (take 2 (drop 1 bs)) → n ≡ length bs - 3 → a ≡ read_body (get_or bs 0 0) (take (length bs - 3) (drop 3 bs)) → a ≡ readRecord bs
-  unfolding readRecord
+  whole : (n : ℕ) {a : Reading} → 3 ≤ length bs → n ≡ number (take 2 (drop 1 bs)) → n ≡ length bs - 3 → a ≡ read_body (get_or bs 0 0) (take (length bs - 3) (drop 3 bs)) → a ≡ read_record bs
+  unfolding read_record
   whole n h e k r = simp (le-leb 3 (length bs) h, ← e, eq-eqb n (length bs - 3) k) (rw (rest_all bs 3) at r)
 
 torn-requires : tie.Need-torn-requires
@@ -52,7 +52,7 @@ returns-2 : tie.Need-returns-2
 returns-2 c =
     let framed = c.before in
     let bs = framed.before.before.before.before.args.bytes.now in
-    c.torn2.ensures ∙ other_length bs _ framed.before.before.if1.false (framed.before.u16-at.ensures ∙ big-read 2 1 bs) (λ e. omega (arith, e, framed.if2.true))
+    c.torn2.ensures ∙ other_length bs _ framed.before.before.if1.false (framed.before.u16-at.ensures ∙ big_read 2 1 bs) (λ e. omega (arith, e, framed.if2.true))
 
 shared-slice-read-read-body : tie.Need-shared-slice-read-read-body
 shared-slice-read-read-body c = search rules
@@ -73,10 +73,10 @@ returns-3 : tie.Need-returns-3
 returns-3 c =
     let framed = c.before.before.before in
     let bs = framed.before.before.before.before.args.bytes.now in
-    whole bs _ framed.before.before.if1.false (framed.before.u16-at.ensures ∙ big-read 2 1 bs) (omega (arith, framed.if2.false)) c.read-body.ensures
+    whole bs _ framed.before.before.if1.false (framed.before.u16-at.ensures ∙ big_read 2 1 bs) (omega (arith, framed.if2.false)) c.read-body.ensures
 
-pub parse-spec : {M : Type 1} → statement M
-parse-spec =
+pub parse_spec : {M : Type 1} → statement M
+parse_spec =
     tie.close
     (tie.spec
     torn-requires

@@ -6,27 +6,27 @@ use mathlib.Core.Logic.{⊎_elim}
 use mathlib.Core.List.{List}
 use Rattle.spec_wire.specs.declared.Reading.{Reading}
 use Rattle.spec_wire.specs.Reader.{read_body}
-use Rattle.wire_reader.proofs.BodyParsing.{no_kind}
+use Rattle.wire_reader.proofs.BodyParsing.{no_kind_lem}
 use borrow.Author.Rules.{rules}
 use Rattle.wire_reader.proofs.read_body.Statement.{statement}
 use Rattle.wire_reader.proofs.read_body.Tie as tie
 
 -- a body that was read as that of one kind, where the kind byte is this kind's
-own-kind : (k j : ℕ) (s : List ℕ) {r : Reading} → r ≡ read_body j s → k ≡ j → r ≡ read_body k s
-own-kind k j s e is = e ∙ ap (λ (n : ℕ). read_body n s) (sym is)
+own_kind : (k j : ℕ) (s : List ℕ) {r : Reading} → r ≡ read_body j s → k ≡ j → r ≡ read_body k s
+own_kind k j s e is = e ∙ ap (λ (n : ℕ). read_body n s) (sym is)
 
 -- What is read stands before what the calls need: a kind byte that is taken for another's is refused there.
 returns : tie.Need-returns
-returns c = search own-kind
+returns c = search own_kind
 
 returns-2 : tie.Need-returns-2
-returns-2 c = search own-kind
+returns-2 c = search own_kind
 
 returns-3 : tie.Need-returns-3
-returns-3 c = search own-kind
+returns-3 c = search own_kind
 
 returns-4 : tie.Need-returns-4
-returns-4 c = search own-kind
+returns-4 c = search own_kind
 
 returns-5 : tie.Need-returns-5
 returns-5 c = search rules
@@ -34,7 +34,7 @@ returns-5 c = search rules
 returns-6 : tie.Need-returns-6
 returns-6 c = let s = c.before.before.before.before.args in
     c.torn.ensures
-    ∙ no_kind s.kind _
+    ∙ no_kind_lem s.kind _
     (⊎_elim (λ w. omega (arith, c.before.before.match, w)) (λ w. omega (arith, c.before.before.match, w.0, w.1)) c.before.if1.branch)
 
 read-load-requires : tie.Need-read-load-requires
@@ -55,8 +55,8 @@ read-claim-requires c κs = search rules
 torn-requires : tie.Need-torn-requires
 torn-requires c κs = search rules
 
-pub read-body-spec : {M : Type 1} → statement M
-read-body-spec =
+pub read_body_spec : {M : Type 1} → statement M
+read_body_spec =
     tie.close
     (tie.spec
     read-load-requires

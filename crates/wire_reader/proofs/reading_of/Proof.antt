@@ -12,5 +12,5 @@ returns c = ap (λ (t : Bool). cond t (Read c.before.args.parsed.step) (Refused 
 returns-2 : tie.Need-returns-2
 returns-2 c = ap (λ (t : Bool). cond t (Read c.before.args.parsed.step) (Refused Torn)) (sym c.if1.false)
 
-pub reading-of-spec : {M : Type 1} → statement M
-reading-of-spec = tie.close (tie.spec returns returns-2)
+pub reading_of_spec : {M : Type 1} → statement M
+reading_of_spec = tie.close (tie.spec returns returns-2)

@@ -26,8 +26,8 @@ same_length c = search rules
 returns : tie.Need-returns
 returns c = rw (← c.before.before.before.before.before.before.tags-of.ensures.fields) c.before.before.put_record.ensures
 
-pub put-numbers-spec : {M : Type 1} → statement M
-put-numbers-spec =
+pub put_numbers_spec : {M : Type 1} → statement M
+put_numbers_spec =
     tie.close
     (tie.spec
     tags-of-requires

@@ -10,14 +10,14 @@ use mathlib.Core.List.{List, [], ◌∷◌, map}
 use lib.ListN.{length, take, drop, set, length-set, length-drop}
 use borrow.Rule.Slice.PartMut.{put_mid}
 use Rattle.spec_base.specs.Number.{digits}
-use Rattle.spec_wire.specs.Kinds.{fieldOf}
-use Rattle.spec_wire.specs.StepRecord.{fieldSizes, bodyBytes, recordBytes}
+use Rattle.spec_wire.specs.Kinds.{field_of}
+use Rattle.spec_wire.specs.StepRecord.{field_sizes, body_bytes, record_bytes}
 use Rattle.spec_base.proofs.Lists.{rest_all}
-use Rattle.spec_wire.proofs.KindTable.{sizes-bound}
-use Rattle.spec_wire.proofs.RecordSizes.{length-body, length-record}
+use Rattle.spec_wire.proofs.KindTable.{sizes_bound}
+use Rattle.spec_wire.proofs.RecordSizes.{length_body, length_record}
 use Rattle.spec_base.proofs.Placing.{place_rest}
-use Rattle.wire_writer.proofs.FieldOrder.{length-head, place-head, place-framed}
-use Rattle.wire_writer.proofs.PlacedRecord.{written-room, written-short, placed-room, placed-short}
+use Rattle.wire_writer.proofs.FieldOrder.{length_head, place_head, place_framed}
+use Rattle.wire_writer.proofs.PlacedRecord.{written_room, written_short, placed_room, placed_short}
 use borrow.Author.Rules.{rules}
 use Rattle.wire_writer.proofs.put_record.Statement.{statement}
 use Rattle.wire_writer.proofs.put_record.Tie as tie
@@ -28,39 +28,39 @@ fields-size-requires c κs = search rules
 add_total : tie.Need-overflow-add-total
 add_total c =
     let start = c.before.before.before.before in
-    omega (arith, c.fields-size.ensures, sizes-bound start.args.tags.now, start.requires)
+    omega (arith, c.fields-size.ensures, sizes_bound start.args.tags.now, start.requires)
 
 -- the record's length, and the buffer after its head and its fields
-module _ (kind : ℕ) (out tags p : List ℕ) (n : ℕ) (sized : n ≡ fieldSizes (map fieldOf tags)) where
+module _ (kind : ℕ) (out tags p : List ℕ) (n : ℕ) (sized : n ≡ field_sizes (map field_of tags)) where
   abbrev body : List ℕ
-  body = bodyBytes (map fieldOf tags) p
+  body = body_bytes (map field_of tags) p
 
   count : n ≡ length body
-  count = sized ∙ sym (length-body (map fieldOf tags) p)
+  count = sized ∙ sym (length_body (map field_of tags) p)
 
   finished : (a b : List ℕ) → 3 + n ≤ length out
       → a ≡ digits (length (take 2 (drop 1 (set out 0 kind)))) n
       → b ≡ place 0 body (take (length (put_mid 1 2 (set out 0 kind) a) - 3) (drop 3 (put_mid 1 2 (set out 0 kind) a)))
-      → put_mid 3 (length (put_mid 1 2 (set out 0 kind) a) - 3) (put_mid 1 2 (set out 0 kind) a) b ≡ place 0 (recordBytes kind body) out
-  unfolding recordBytes
+      → put_mid 3 (length (put_mid 1 2 (set out 0 kind) a) - 3) (put_mid 1 2 (set out 0 kind) a) b ≡ place 0 (record_bytes kind body) out
+  unfolding record_bytes
   finished a b h e q =
-      let head : put_mid 1 2 (set out 0 kind) a ≡ place 1 (digits 2 n) (place 0 (kind ∷ []) out) = place-head kind n out a (omega arith) e in
-      let long : length (put_mid 1 2 (set out 0 kind) a) ≡ length out = ap length head ∙ length-head kind n out (omega arith) in
+      let head : put_mid 1 2 (set out 0 kind) a ≡ place 1 (digits 2 n) (place 0 (kind ∷ []) out) = place_head kind n out a (omega arith) e in
+      let long : length (put_mid 1 2 (set out 0 kind) a) ≡ length out = ap length head ∙ length_head kind n out (omega arith) in
       rw q (place_rest 3 body (put_mid 1 2 (set out 0 kind) a) (omega (arith, count)))
       ∙ ap (λ (l : List ℕ). place 3 body l) head
-      ∙ rw (← count) (place-framed kind n body out (omega (arith, count)))
+      ∙ rw (← count) (place_framed kind n body out (omega (arith, count)))
 
-  fields-room : (head : List ℕ) → length head ≡ length out → 3 + n ≤ length out → fieldSizes (map fieldOf tags) ≤ length (take (length head - 3) (drop 3 head))
-  fields-room head e h = rw (rest_all head 3) (omega (arith, sized, length-drop 3 head))
+  fields_room : (head : List ℕ) → length head ≡ length out → 3 + n ≤ length out → field_sizes (map field_of tags) ≤ length (take (length head - 3) (drop 3 head))
+  fields_room head e h = rw (rest_all head 3) (omega (arith, sized, length-drop 3 head))
 
-  whole : length (recordBytes kind body) ≡ 3 + n
-  whole = length-record kind body ∙ ap (λ (k : ℕ). 3 + k) (sym count)
+  whole : length (record_bytes kind body) ≡ 3 + n
+  whole = length_record kind body ∙ ap (λ (k : ℕ). 3 + k) (sym count)
 
-  no_room : length out < 3 + n → (Refused ShortBuffer ≡ written (recordBytes kind body) 0 out) × (out ≡ placed (recordBytes kind body) 0 out)
-  no_room h = (written-short (recordBytes kind body) 0 out (omega (arith, whole)), placed-short (recordBytes kind body) 0 out (omega (arith, whole)))
+  no_room : length out < 3 + n → (Refused ShortBuffer ≡ written (record_bytes kind body) 0 out) × (out ≡ placed (record_bytes kind body) 0 out)
+  no_room h = (written_short (record_bytes kind body) 0 out (omega (arith, whole)), placed_short (record_bytes kind body) 0 out (omega (arith, whole)))
 
-  room : {after : List ℕ} → 3 + n ≤ length out → after ≡ place 0 (recordBytes kind body) out → (Count (3 + n) ≡ written (recordBytes kind body) 0 out) × (after ≡ placed (recordBytes kind body) 0 out)
-  room h e = (ap Count (sym whole) ∙ written-room (recordBytes kind body) 0 out (omega (arith, whole)), e ∙ placed-room (recordBytes kind body) 0 out (omega (arith, whole)))
+  room : {after : List ℕ} → 3 + n ≤ length out → after ≡ place 0 (record_bytes kind body) out → (Count (3 + n) ≡ written (record_bytes kind body) 0 out) × (after ≡ placed (record_bytes kind body) 0 out)
+  room h e = (ap Count (sym whole) ∙ written_room (record_bytes kind body) 0 out (omega (arith, whole)), e ∙ placed_room (record_bytes kind body) 0 out (omega (arith, whole)))
 
 returns : tie.Need-returns
 returns c =
@@ -102,7 +102,7 @@ put-fields-requires c κs =
     let args = start.args in
     let tested = c.before.before.before.before.before in
     let head = put_mid 1 2 (set args.out.now 0 args.kind) c.before.before.before.put-number.new.0 in
-    fields-room args.kind args.out.now args.tags.now args.numbers.now _ tested.before.fields-size.ensures
+    fields_room args.kind args.out.now args.tags.now args.numbers.now _ tested.before.fields-size.ensures
     head (c.before.before.out.given.1 ∙ length-set args.out.now 0 args.kind) (omega arith)
 
 same_length : tie.Need-same-length
@@ -119,8 +119,8 @@ returns-2 c =
     room args.kind args.out.now args.tags.now args.numbers.now _ sized (omega arith)
     (finished args.kind args.out.now args.tags.now args.numbers.now _ sized _ _ (omega arith) c.before.before.before.before.before.before.put-number.ensures c.before.before.put-fields.ensures)
 
-pub put-record-spec : {M : Type 1} → statement M
-put-record-spec =
+pub put_record_spec : {M : Type 1} → statement M
+put_record_spec =
     tie.close
     (tie.spec
     fields-size-requires

@@ -1,5 +1,5 @@
 -- `arbiter::change::lower_at` meets its contract: after i turns the board has left the first i barring sets; then the waiting set.
-use Rattle.arbiter.proofs.ClaimsChange.{Lowering, lower-none, lower-more, lower-is}
+use Rattle.arbiter.proofs.ClaimsChange.{Lowering, lower_none, lower_more, lower_is}
 use mathlib.Core.Path.{◌≡◌, subst}
 use Prim.Native.Nat.{ℕ, ◌-◌, ◌≤◌}
 use native.Mathlib.Omega.{arith}
@@ -15,7 +15,7 @@ decreases-loop rec₀ at boards board count i₀ rec i = boards - i
 
 loop-holds : tie.Need-loop-init invariant-loop decreases-loop
 loop-holds c = let s = c.before in
-    (search rules, lower-none s.args.boards s.args.at s.requires.3 s.args.rec.now (λ k. (c.slice-known.given k).fits) s.requires.0 s.requires.4 s.args.board)
+    (search rules, lower_none s.args.boards s.args.at s.requires.3 s.args.rec.now (λ k. (c.slice-known.given k).fits) s.requires.0 s.requires.4 s.args.board)
 
 add-place : tie.Need-overflow-add-place invariant-loop decreases-loop
 add-place c = search rules
@@ -45,7 +45,7 @@ loop-again : tie.Need-loop-preserved invariant-loop decreases-loop
 loop-again c = let s = c.before.before.before.before.before.before.before.before.before.before in
     let l = c.before.before.before.before.before.before.before.before.loop in (
       search rules,
-      lower-more s.args.boards s.args.at s.requires.3 s.args.rec.now (λ k. (c.before.before.before.before.before.before.before.before.before.slice-known.given k).fits) s.requires.0 s.requires.4 s.args.board l.i _ _ _ _ (omega arith) l.invariant.1
+      lower_more s.args.boards s.args.at s.requires.3 s.args.rec.now (λ k. (c.before.before.before.before.before.before.before.before.before.slice-known.given k).fits) s.requires.0 s.requires.4 s.args.board l.i _ _ _ _ (omega arith) l.invariant.1
           c.before.before.before.before.before.u16-at.ensures c.before.before.before.before.remove.ensures (search rules) c.before.before.put-u16.ensures,
     )
 
@@ -83,12 +83,12 @@ returns c =
     let known = l.before in
     let s = known.before in
     let all : l.loop.i ≡ s.args.boards = omega arith in
-    lower-is s.args.boards s.args.at s.requires.3 s.args.rec.now (λ k. (known.slice-known.given k).fits) s.requires.0 s.requires.4 s.args.board _ _ _ _ _ _ s.requires.1 s.requires.2
+    lower_is s.args.boards s.args.at s.requires.3 s.args.rec.now (λ k. (known.slice-known.given k).fits) s.requires.0 s.requires.4 s.args.board _ _ _ _ _ _ s.requires.1 s.requires.2
     (subst (λ (k : ℕ). Lowering s.args.boards s.args.at s.args.rec.now s.args.board k l.loop.rec) all l.loop.invariant.1)
     read.u16-at2.ensures removed.remove2.ensures (search rules) removed.remove2.ensures stored.put-u162.ensures own.put-u163.ensures
 
-pub lower-at-spec : {M : Type 1} → statement M
-lower-at-spec =
+pub lower_at_spec : {M : Type 1} → statement M
+lower_at_spec =
     tie.close
     (tie.spec
     invariant-loop

@@ -14,5 +14,5 @@ lowest-requires c κs = search rules
 returns : tie.Need-returns
 returns c = λ n. c.lowest.ensures ∙ ap lowest (c.before.waiting-at.ensures n)
 
-pub active-at-spec : {M : Type 1} → statement M
-active-at-spec = tie.close (tie.spec waiting-at-requires lowest-requires returns)
+pub active_at_spec : {M : Type 1} → statement M
+active_at_spec = tie.close (tie.spec waiting-at-requires lowest-requires returns)

@@ -11,5 +11,5 @@ returns : tie.Need-returns
 unfolding member bit
 returns c = search rules
 
-pub member-spec : {M : Type 1} → statement M
-member-spec = tie.close (tie.spec shr-result returns)
+pub member_spec : {M : Type 1} → statement M
+member_spec = tie.close (tie.spec shr-result returns)

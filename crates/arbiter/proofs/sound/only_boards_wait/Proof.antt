@@ -1,6 +1,6 @@
 -- `arbiter::sound::only_boards_wait` meets its contract: the waiting set is read, and its bits are tested.
 use mathlib.Core.Path.{ap, ◌∙◌}
-use Rattle.spec_arbiter.specs.Boards.{boardsOnly}
+use Rattle.spec_arbiter.specs.Boards.{boards_only}
 use borrow.Author.Rules.{rules}
 use Rattle.arbiter.proofs.sound.only_boards_wait.Statement.{statement}
 use Rattle.arbiter.proofs.sound.only_boards_wait.Tie as tie
@@ -13,7 +13,7 @@ boards-only-requires c κs = search rules
 
 returns : tie.Need-returns
 returns c = let a = c.before.before.before.args in
-    c.boards-only.ensures ∙ ap (boardsOnly a.boards) (c.before.waiting-at.ensures a.boards)
+    c.boards-only.ensures ∙ ap (boards_only a.boards) (c.before.waiting-at.ensures a.boards)
 
-pub only-boards-wait-spec : {M : Type 1} → statement M
-only-boards-wait-spec = tie.close (tie.spec waiting-at-requires boards-only-requires returns)
+pub only_boards_wait_spec : {M : Type 1} → statement M
+only_boards_wait_spec = tie.close (tie.spec waiting-at-requires boards-only-requires returns)

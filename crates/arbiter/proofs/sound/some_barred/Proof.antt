@@ -11,5 +11,5 @@ all-zero-requires c κs = search rules
 returns : tie.Need-returns
 returns c = ap not c.all-zero.ensures
 
-pub some-barred-spec : {M : Type 1} → statement M
-some-barred-spec = tie.close (tie.spec all-zero-requires returns)
+pub some_barred_spec : {M : Type 1} → statement M
+some_barred_spec = tie.close (tie.spec all-zero-requires returns)

@@ -1,7 +1,7 @@
 -- `arbiter::sound::unused_sets_zero` meets its contract: place 0 and the places above the last board are all that the layout asks of them.
 use mathlib.Core.Path.{sym, ◌∙◌}
 use mathlib.Core.Bool.{◌&&◌}
-use Rattle.arbiter.proofs.SetBytes.{claims-formed}
+use Rattle.arbiter.proofs.SetBytes.{claims_formed}
 use borrow.Author.Rules.{rules}
 use Rattle.arbiter.proofs.sound.unused_sets_zero.Statement.{statement}
 use Rattle.arbiter.proofs.sound.unused_sets_zero.Tie as tie
@@ -30,10 +30,10 @@ both-requires c κs = search rules
 returns : tie.Need-returns
 returns c = let s = c.before.before.before.before in
     c.both.ensures ∙ (λ i. c.before.before.all-zero.ensures i && c.before.all-zero2.ensures i)
-    ∙ sym (claims-formed s.args.boards s.args.at s.args.rec.now s.requires.1)
+    ∙ sym (claims_formed s.args.boards s.args.at s.args.rec.now s.requires.1)
 
-pub unused-sets-zero-spec : {M : Type 1} → statement M
-unused-sets-zero-spec =
+pub unused_sets_zero_spec : {M : Type 1} → statement M
+unused_sets_zero_spec =
     tie.close
     (tie.spec
     mul-used

@@ -6,7 +6,7 @@ use mathlib.Core.List.{◌++◌, append-nil}
 use lib.ListN.{length, drop, length-set}
 use lib.Seq.{drop-length}
 use Rattle.spec_base.specs.Number.{digits}
-use Rattle.spec_base.proofs.Numbers.{digits-next}
+use Rattle.spec_base.proofs.Numbers.{digits_next}
 use Rattle.base.proofs.numbers.put_number.Statement.{statement}
 use Rattle.base.proofs.numbers.put_number.Tie as tie
 
@@ -32,7 +32,7 @@ loop-less : tie.Need-loop-smaller invariant-loop decreases-loop
 loop-less c = omega arith
 
 loop-again : tie.Need-loop-preserved invariant-loop decreases-loop
-loop-again c = (simp length-set (omega arith), simp length-set c.before.loop.invariant.1, digits-next _ _ _ c.loop-test.true c.before.loop.invariant.0 ∙ c.before.loop.invariant.2)
+loop-again c = (simp length-set (omega arith), simp length-set c.before.loop.invariant.1, digits_next _ _ _ c.loop-test.true c.before.loop.invariant.0 ∙ c.before.loop.invariant.2)
 
 same_length : tie.Need-same-length invariant-loop decreases-loop
 same_length c = c.before.loop.invariant.1
@@ -43,8 +43,8 @@ returns c =
     let done : at.i ≡ 0 = omega arith in
     rw done at at.invariant.2
 
-pub put-number-spec : {M : Type 1} → statement M
-put-number-spec =
+pub put_number_spec : {M : Type 1} → statement M
+put_number_spec =
     tie.close
     (tie.spec
     invariant-loop

@@ -27,6 +27,6 @@ same_length c = search rules
 returns : tie.Need-returns
 returns c = write_two c.args.at c.args.value c.args.s.now c.requires (search rules)
 
-pub put-u16-spec : {M : Type 1} → statement M
-put-u16-spec =
+pub put_u16_spec : {M : Type 1} → statement M
+put_u16_spec =
     tie.close (tie.spec cast-s slice-write-s cast-s-2 add-s slice-write-s-2 same_length returns)

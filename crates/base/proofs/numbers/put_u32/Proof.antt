@@ -1,5 +1,5 @@
 -- `base::numbers::put_u32` meets its contract: four bytes, each in its place.
-use Rattle.spec_base.proofs.WordBytes.{write-four}
+use Rattle.spec_base.proofs.WordBytes.{write_four}
 use lib.ListN.{length-set}
 use native.Mathlib.Omega.{arith}
 use borrow.Author.Rules.{rules}
@@ -43,10 +43,10 @@ same_length : tie.Need-same-length
 same_length c = search rules
 
 returns : tie.Need-returns
-returns c = write-four c.args.at c.args.value c.args.s.now (omega arith) c.requires
+returns c = write_four c.args.at c.args.value c.args.s.now (omega arith) c.requires
 
-pub put-u32-spec : {M : Type 1} → statement M
-put-u32-spec =
+pub put_u32_spec : {M : Type 1} → statement M
+put_u32_spec =
     tie.close
     (tie.spec
     cast-s

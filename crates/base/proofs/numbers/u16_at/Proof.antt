@@ -1,5 +1,5 @@
 -- `base::numbers::u16_at` meets its contract: two bytes, the high one first, make a number.
-use Rattle.spec_base.proofs.WordBytes.{read-two}
+use Rattle.spec_base.proofs.WordBytes.{read_two}
 use mathlib.Core.Path.{sym, ◌∙◌}
 use Prim.Native.Nat.{◌+◌, ◌*◌}
 use native.Mathlib.Omega.{arith}
@@ -33,10 +33,10 @@ add-result c = let a = c.before.before.before.before.before.args in let g = c.be
 returns : tie.Need-returns
 returns c = let a = c.before.before.before.before.before.args in
     (λ i. c.before.before.half.ensures i * 256 + c.half2.ensures i)
-    ∙ sym (read-two a.at a.s.now c.before.before.before.before.before.requires)
+    ∙ sym (read_two a.at a.s.now c.before.before.before.before.before.requires)
 
-pub u16-at-spec : {M : Type 1} → statement M
-u16-at-spec =
+pub u16_at_spec : {M : Type 1} → statement M
+u16_at_spec =
     tie.close
     (tie.spec
     shared-slice-read-wide

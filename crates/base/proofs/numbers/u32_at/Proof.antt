@@ -1,5 +1,5 @@
 -- `base::numbers::u32_at` meets its contract: the number that four bytes make.
-use Rattle.spec_base.proofs.WordBytes.{read-four}
+use Rattle.spec_base.proofs.WordBytes.{read_four}
 use Prim.Native.Nat.{◌+◌, ◌*◌}
 use mathlib.Core.Path.{sym, ◌∙◌}
 use borrow.Author.Rules.{rules}
@@ -63,10 +63,10 @@ returns c = let s = c.before.before.before.before.before.before.before.before.be
     let b = c.before.before.before.before.wide2.ensures.0 in
     let d = c.before.before.wide3.ensures.0 in
     let e = c.wide4.ensures.0 in
-    (λ i. a i * 16777216 + b i * 65536 + d i * 256 + e i) ∙ sym (read-four s.args.at s.args.s.now s.requires)
+    (λ i. a i * 16777216 + b i * 65536 + d i * 256 + e i) ∙ sym (read_four s.args.at s.args.s.now s.requires)
 
-pub u32-at-spec : {M : Type 1} → statement M
-u32-at-spec =
+pub u32_at_spec : {M : Type 1} → statement M
+u32_at_spec =
     tie.close
     (tie.spec
     shared-slice-read-wide

@@ -125,8 +125,8 @@ returns-19 c = sym (ap number c.enum-told19.given.1)
 returns-20 : tie.Need-returns-20
 returns-20 c = sym (ap number c.enum-told20.given.1)
 
-pub number-spec : {M : Type 1} → statement M
-number-spec =
+pub number_spec : {M : Type 1} → statement M
+number_spec =
     tie.close
     (tie.spec
     enum_told

@@ -3,15 +3,15 @@ use mathlib.Core.Path.{refl, ◌≡◌, sym, ap, ◌∙◌}
 use native.Mathlib.Omega.{arith}
 use lib.ListN.{length, get_or}
 use Prim.Native.Nat.{ℕ, ◌-◌, ◌<◌}
-use Rattle.spec_rack.specs.Soundness.{soundBytes}
-use Rattle.spec_rack.proofs.ByteLists.{sound-kept}
+use Rattle.spec_rack.specs.Soundness.{sound_bytes}
+use Rattle.spec_rack.proofs.ByteLists.{sound_kept}
 use Rattle.engine.proofs.RunLaws.{Going, going_start, going_more, going_end, ended, goes}
 use borrow.Author.Rules.{rules}
 use Rattle.engine.proofs.run.run.Statement.{statement}
 use Rattle.engine.proofs.run.run.Tie as tie
 
 abbrev invariant-loop : tie.invariant-loop
-invariant-loop rec₀ list at replies₀ sound place₀ made₀ rec replies place made = Going rec₀ list at replies₀ rec replies place made × ((sound ≡ soundBytes rec) × (((i : ℕ) → get_or rec i 0 < 256) × (length rec ≡ length rec₀)))
+invariant-loop rec₀ list at replies₀ sound place₀ made₀ rec replies place made = Going rec₀ list at replies₀ rec replies place made × ((sound ≡ sound_bytes rec) × (((i : ℕ) → get_or rec i 0 < 256) × (length rec ≡ length rec₀)))
 
 abbrev decreases-loop : tie.decreases-loop
 decreases-loop rec₀ list at replies₀ sound place₀ made₀ rec replies place made = length list - place
@@ -74,7 +74,7 @@ loop-again c =
       going_more s.args.rec.now s.args.list.now s.args.at.now s.args.replies.now l.rec l.replies l.place l.made l.invariant.0 q.0 q.1
           cuts.frame-end-within.result cuts.frame-end-within.ensures.0 n.result n.new.0 n.ensures.0 n.ensures.1,
       (
-        l.invariant.1.0 ∙ sym (ap soundBytes n.ensures.1 ∙ sound-kept l.rec l.invariant.1.1.0 _),
+        l.invariant.1.0 ∙ sym (ap sound_bytes n.ensures.1 ∙ sound_kept l.rec l.invariant.1.1.0 _),
         (λ k. (c.slice-known3.given k).fits, n.auto.0 ∙ l.invariant.1.1.1),
       ),
     )

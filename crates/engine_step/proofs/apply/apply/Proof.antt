@@ -1,6 +1,6 @@
 -- `engine_step::apply::apply` meets its contract: an unsound record is refused in every arm, on a sound one each kind goes by its function.
 use borrow.Author.Rules.{rules}
-use Rattle.step_checks.proofs.StepOutcome.{load-leaves}
+use Rattle.step_checks.proofs.StepOutcome.{load_leaves}
 use Rattle.engine_step.proofs.StepOnBytes.{not_sound, ready, made}
 use Rattle.engine_step.proofs.apply.apply.Statement.{statement}
 use Rattle.engine_step.proofs.apply.apply.Tie as tie
@@ -11,7 +11,7 @@ returns c =
     let way = c.before.before in
     let held = way.before.before.before.before in
     let s = held.before in
-    made s.args.rec.now s.args.sound s.requires way.if1.true way.before.before.step.given.1 (c.load.ensures, load-leaves s.args.rec.now (λ j. (held.slice-known.given j).fits) (ready s.args.rec.now s.args.sound s.requires way.if1.true (λ j. (held.slice-known.given j).fits)).whole _ _ _)
+    made s.args.rec.now s.args.sound s.requires way.if1.true way.before.before.step.given.1 (c.load.ensures, load_leaves s.args.rec.now (λ j. (held.slice-known.given j).fits) (ready s.args.rec.now s.args.sound s.requires way.if1.true (λ j. (held.slice-known.given j).fits)).whole _ _ _)
 
 returns-2 : tie.Need-returns-2
 returns-2 c =
@@ -209,8 +209,8 @@ same-length-6 c = search rules
 same-length-7 : tie.Need-same-length-7
 same-length-7 c = search rules
 
-pub apply-spec : {M : Type 1} → statement M
-apply-spec =
+pub apply_spec : {M : Type 1} → statement M
+apply_spec =
     tie.close
     (tie.spec
     enum-known-step

@@ -6,5 +6,5 @@ use Rattle.engine_step.proofs.apply.unsound.Tie as tie
 returns : tie.Need-returns
 returns c = refl
 
-pub unsound-spec : {M : Type 1} → statement M
-unsound-spec = tie.close (tie.spec returns)
+pub unsound_spec : {M : Type 1} → statement M
+unsound_spec = tie.close (tie.spec returns)

@@ -23,6 +23,6 @@ returns c = rw (lt-ltb _ 10 c.if1.true) refl
 returns-2 : tie.Need-returns-2
 returns-2 c = rw (le-ltb _ 10 c.if1.false) refl
 
-pub digit-spec : {M : Type 1} → statement M
-digit-spec =
+pub digit_spec : {M : Type 1} → statement M
+digit_spec =
     tie.close (tie.spec cast-result add-result cast-result-2 add-result-2 returns returns-2)

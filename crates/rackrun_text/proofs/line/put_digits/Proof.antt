@@ -5,7 +5,7 @@ use native.Mathlib.Nat.{mod-lt}
 use mathlib.Core.Path.{refl, ◌∙◌}
 use lib.ListN.{length-set}
 use borrow.Author.Rules.{rules}
-use Rattle.rackrun_text.proofs.LineLaws.{Going, going_more, going_end, digits-ended}
+use Rattle.rackrun_text.proofs.LineLaws.{Going, going_more, going_end, digits_ended}
 use Rattle.rackrun_text.proofs.line.put_digits.Statement.{statement}
 use Rattle.rackrun_text.proofs.line.put_digits.Tie as tie
 
@@ -68,11 +68,11 @@ returns c =
     let l = c.before.loop in (
       refl,
       going_end s.args.at s.args.base s.args.count s.args.n _ l.out l.rest l.left c.loop-test.false l.invariant
-          ∙ digits-ended s.args.at s.args.base s.args.count s.args.n s.args.end s.args.out.now s.requires.0,
+          ∙ digits_ended s.args.at s.args.base s.args.count s.args.n s.args.end s.args.out.now s.requires.0,
     )
 
-pub put-digits-spec : {M : Type 1} → statement M
-put-digits-spec =
+pub put_digits_spec : {M : Type 1} → statement M
+put_digits_spec =
     tie.close
     (tie.spec
     invariant-loop

@@ -1,7 +1,7 @@
 -- `rackrun_text::line::put_done` meets its contract: three bytes, one after the other.
 use native.Mathlib.Omega.{arith}
 use lib.ListN.{length-set}
-use Rattle.rackrun_text.proofs.LineLaws.{done-placed}
+use Rattle.rackrun_text.proofs.LineLaws.{done_placed}
 use borrow.Author.Rules.{rules}
 use Rattle.rackrun_text.proofs.line.put_done.Statement.{statement}
 use Rattle.rackrun_text.proofs.line.put_done.Tie as tie
@@ -28,10 +28,10 @@ same_length : tie.Need-same-length
 same_length c = search rules
 
 returns : tie.Need-returns
-returns c = done-placed c.args.at c.args.out.now (omega (arith, c.requires))
+returns c = done_placed c.args.at c.args.out.now (omega (arith, c.requires))
 
-pub put-done-spec : {M : Type 1} → statement M
-put-done-spec =
+pub put_done_spec : {M : Type 1} → statement M
+put_done_spec =
     tie.close
     (tie.spec
     slice-write-out

@@ -1,6 +1,6 @@
 -- `rackrun_text::line::put_line` meets its contract: the index and a space are placed, then the reply.
 use native.Mathlib.Omega.{arith}
-use Rattle.rackrun_text.proofs.LineLaws.{line-placed}
+use Rattle.rackrun_text.proofs.LineLaws.{line_placed}
 use borrow.Author.Rules.{rules}
 use Rattle.rackrun_text.proofs.line.put_line.Statement.{statement}
 use Rattle.rackrun_text.proofs.line.put_line.Tie as tie
@@ -22,8 +22,8 @@ returns c =
     let reply = c.before.before in
     let index = reply.before.before.before.before in
     let s = index.before.before.before.before in
-    line-placed s.args.at _ _ s.args.index _ s.args.reply s.args.out.now _ _ (omega (arith, s.requires)) index.before.width.ensures.0
+    line_placed s.args.at _ _ s.args.index _ s.args.reply s.args.out.now _ _ (omega (arith, s.requires)) index.before.width.ensures.0
     index.put-digits.ensures reply.put-reply.ensures
 
-pub put-line-spec : {M : Type 1} → statement M
-put-line-spec = tie.close (tie.spec width-requires put-digits-requires put-reply-requires same_length returns)
+pub put_line_spec : {M : Type 1} → statement M
+put_line_spec = tie.close (tie.spec width-requires put-digits-requires put-reply-requires same_length returns)

@@ -4,8 +4,8 @@ use mathlib.Core.Path.{sym, ap, ◌∙◌}
 use mathlib.Core.List.{List, [], ◌∷◌, ◌++◌}
 use Rattle.spec_base.proofs.Placing.{placed_same}
 use Rattle.spec_rack.specs.declared.Reply.TheVariants.{Accepted}
-use Rattle.spec_rackrun.specs.Rackrun.{replyText}
-use Rattle.rackrun_text.proofs.LineLaws.{said-word, said-refused, reply-placed}
+use Rattle.spec_rackrun.specs.Rackrun.{reply_text}
+use Rattle.rackrun_text.proofs.LineLaws.{said_word, said_refused, reply_placed}
 use borrow.Author.Rules.{rules}
 use Rattle.rackrun_text.proofs.line.put_reply.Statement.{statement}
 use Rattle.rackrun_text.proofs.line.put_reply.Tie as tie
@@ -53,7 +53,7 @@ returns : tie.Need-returns
 returns c =
     let put = c.before.before in
     let known = put.before.before in
-    let told = ap replyText (known.before.before.before.reply.given.1 ∙ ap Accepted known.enum_told.given.1) in
+    let told = ap reply_text (known.before.before.before.reply.given.1 ∙ ap Accepted known.enum_told.given.1) in
     placed_same _ _ _ _ _ _ (ap (λ (l : List ℕ). l ++ 10 ∷ []) (sym told)) put.put-done.ensures
 
 same-length-2 : tie.Need-same-length-2
@@ -63,7 +63,7 @@ returns-2 : tie.Need-returns-2
 returns-2 c =
     let put = c.before.before in
     let known = put.before.before in
-    reply-placed _ _ _ _ _ _ _ _ _ (ap replyText (known.before.before.before.before.reply.given.1 ∙ ap Accepted known.before.answer.given.1) ∙ said-word _)
+    reply_placed _ _ _ _ _ _ _ _ _ (ap reply_text (known.before.before.before.before.reply.given.1 ∙ ap Accepted known.before.answer.given.1) ∙ said_word _)
     put.put-number.ensures
 
 same-length-3 : tie.Need-same-length-3
@@ -73,7 +73,7 @@ returns-3 : tie.Need-returns-3
 returns-3 c =
     let put = c.before.before in
     let known = put.before.before in
-    let told = ap replyText (known.before.before.before.before.reply.given.1 ∙ ap Accepted known.before.answer2.given.1) in
+    let told = ap reply_text (known.before.before.before.before.reply.given.1 ∙ ap Accepted known.before.answer2.given.1) in
     placed_same _ _ _ _ _ _ (ap (λ (l : List ℕ). l ++ 10 ∷ []) (sym told)) put.put-served.ensures
 
 same-length-4 : tie.Need-same-length-4
@@ -83,11 +83,11 @@ returns-4 : tie.Need-returns-4
 returns-4 c =
     let put = c.before.before in
     let known = put.before.before.before in
-    reply-placed _ _ _ _ _ _ _ _ _ (ap replyText known.before.before.reply2.given.1 ∙ said-refused _ _ _ known.number.ensures put.before.width.ensures.0)
+    reply_placed _ _ _ _ _ _ _ _ _ (ap reply_text known.before.before.reply2.given.1 ∙ said_refused _ _ _ known.number.ensures put.before.width.ensures.0)
     put.put-number2.ensures
 
-pub put-reply-spec : {M : Type 1} → statement M
-put-reply-spec =
+pub put_reply_spec : {M : Type 1} → statement M
+put_reply_spec =
     tie.close
     (tie.spec
     enum-known-reply

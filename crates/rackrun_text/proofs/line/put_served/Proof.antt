@@ -1,6 +1,6 @@
 -- `rackrun_text::line::put_served` meets its contract: a letter, the component and a point are placed, then the block and the newline.
 use native.Mathlib.Omega.{arith}
-use Rattle.rackrun_text.proofs.LineLaws.{byte_width, served-placed}
+use Rattle.rackrun_text.proofs.LineLaws.{byte_width, served_placed}
 use borrow.Author.Rules.{rules}
 use Rattle.rackrun_text.proofs.line.put_served.Statement.{statement}
 use Rattle.rackrun_text.proofs.line.put_served.Tie as tie
@@ -39,11 +39,11 @@ returns c =
     let ended = c.before.before in
     let number = ended.before.before.before.before.before in
     let s = number.before.before.before.before in
-    served-placed s.args.at _ _ s.args.component s.args.block _ _ s.args.out.now _ _ (omega (arith, s.requires)) (search rules) (search rules)
+    served_placed s.args.at _ _ s.args.component s.args.block _ _ s.args.out.now _ _ (omega (arith, s.requires)) (search rules) (search rules)
     number.before.width.ensures.0 ended.before.width2.ensures.0 number.put-number.ensures ended.put-digits.ensures
 
-pub put-served-spec : {M : Type 1} → statement M
-put-served-spec =
+pub put_served_spec : {M : Type 1} → statement M
+put_served_spec =
     tie.close
     (tie.spec
     width-requires

@@ -1,6 +1,6 @@
 -- `record::cells::set_token_state` meets its contract: one byte in each of four lanes; every other component keeps its bytes.
 use mathlib.Core.Path.{◌∙◌}
-use Rattle.record.proofs.FieldAccess.{set-marks-is}
+use Rattle.record.proofs.FieldAccess.{set_marks_is}
 use borrow.Author.Rules.{rules}
 use Rattle.record.proofs.cells.set_token_state.Statement.{statement}
 use Rattle.record.proofs.cells.set_token_state.Tie as tie
@@ -17,8 +17,8 @@ same_length c = search rules
 returns : tie.Need-returns
 returns c = let s = c.before.before.before.before.before.before in
     c.before.before.put-lanes.ensures
-    ∙ set-marks-is s.args.rec.now (λ k. (c.before.before.before.before.before.slice-known.given k).fits) s.args.block s.args.component s.requires
+    ∙ set_marks_is s.args.rec.now (λ k. (c.before.before.before.before.before.slice-known.given k).fits) s.args.block s.args.component s.requires
     c.before.before.before.before.plain-offset.result c.before.before.before.before.plain-offset.ensures s.args.state
 
-pub set-token-state-spec : {M : Type 1} → statement M
-set-token-state-spec = tie.close (tie.spec plain-offset-requires put-lanes-requires same_length returns)
+pub set_token_state_spec : {M : Type 1} → statement M
+set_token_state_spec = tie.close (tie.spec plain-offset-requires put-lanes-requires same_length returns)

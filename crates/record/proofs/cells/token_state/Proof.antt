@@ -1,6 +1,6 @@
 -- `record::cells::token_state` meets its contract: one byte of each of four lanes.
 use native.Mathlib.Nat.{add-zero}
-use Rattle.record.proofs.FieldAccess.{marks-is}
+use Rattle.record.proofs.FieldAccess.{marks_is}
 use borrow.Author.Rules.{rules}
 use Rattle.record.proofs.cells.token_state.Statement.{statement}
 use Rattle.record.proofs.cells.token_state.Tie as tie
@@ -34,11 +34,11 @@ returns c = let s = c.before.before.before.before.before.before.before in
       c.byte-at4.ensures,
       add-zero place.result,
     )
-    (marks-is s.args.rec.now (λ k. (c.before.before.before.before.before.before.shared-slice-known.given k).fits) s.args.block s.args.component
+    (marks_is s.args.rec.now (λ k. (c.before.before.before.before.before.before.shared-slice-known.given k).fits) s.args.block s.args.component
     s.requires place.result place.ensures)
 
-pub token-state-spec : {M : Type 1} → statement M
-token-state-spec =
+pub token_state_spec : {M : Type 1} → statement M
+token_state_spec =
     tie.close
     (tie.spec
     plain-offset-requires

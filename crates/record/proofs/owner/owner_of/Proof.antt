@@ -12,5 +12,5 @@ returns-2 c = search rules
 returns-3 : tie.Need-returns-3
 returns-3 c = search rules
 
-pub owner-of-spec : {M : Type 1} → statement M
-owner-of-spec = tie.close (tie.spec returns returns-2 returns-3)
+pub owner_of_spec : {M : Type 1} → statement M
+owner_of_spec = tie.close (tie.spec returns returns-2 returns-3)

@@ -29,8 +29,8 @@ returns c = let s = c.before.before.before.before.before.args in
     (and_assoc (leb 1 s.boards && leb s.boards 15 && leb 1 s.blocks && leb s.blocks 32) (leb s.boards s.tokens) (leb s.tokens 64)
     ∙ ap (λ (t : Bool). t && (leb s.boards s.tokens && leb s.tokens 64)) (and_assoc (leb 1 s.boards && leb s.boards 15) (leb 1 s.blocks) (leb s.blocks 32)))
 
-pub in-range-spec : {M : Type 1} → statement M
-in-range-spec =
+pub in_range_spec : {M : Type 1} → statement M
+in_range_spec =
     tie.close
     (tie.spec
     between-requires

@@ -4,7 +4,7 @@ use Prim.Native.Nat.{◌+◌}
 use lib.ListN.{set, length-set}
 use native.Mathlib.Omega.{arith}
 use Rattle.spec_base.specs.Folds.{toℕ}
-use Rattle.record.proofs.FieldWrites.{tokens-write}
+use Rattle.record.proofs.FieldWrites.{tokens_write}
 use borrow.Author.Rules.{rules}
 use Rattle.record.proofs.tokens.put_token_state.Statement.{statement}
 use Rattle.record.proofs.tokens.put_token_state.Tie as tie
@@ -55,10 +55,10 @@ returns c = let s = c.before.before.before.before in
     set
     (set (set (set a.s.now a.at a.state.plain) (a.at + 1) (toℕ (c.before.before.is-present.ensures i))) (a.at + 2) (toℕ a.state.valid))
     (a.at + 3) (toℕ (c.before.is-dirty.ensures i)))
-    ∙ tokens-write a.at a.state.plain a.state.owner a.state.valid a.s.now s.requires
+    ∙ tokens_write a.at a.state.plain a.state.owner a.state.valid a.s.now s.requires
 
-pub put-token-state-spec : {M : Type 1} → statement M
-put-token-state-spec =
+pub put_token_state_spec : {M : Type 1} → statement M
+put_token_state_spec =
     tie.close
     (tie.spec
     is-present-requires

@@ -1,8 +1,8 @@
 -- `record::words::put_words` meets its contract. The invariant: the first i words are written.
 use borrow.Author.Rules.{rules}
 use Rattle.spec_base.proofs.Laws.{cut}
-use Rattle.spec_base.specs.Layout.{modifyAt, big, writeItems}
-use Rattle.record.proofs.FieldAccess.{lined-more, lined-all}
+use Rattle.spec_base.specs.Layout.{modify_at, big, write_items}
+use Rattle.record.proofs.FieldAccess.{lined_more, lined_all}
 use mathlib.Core.Path.{◌≡◌, refl, sym, ap, ◌∙◌}
 use lib.ListN.{length, get_or, take}
 use Prim.Native.Nat.{◌≤◌, ◌-◌, ◌+◌, ◌*◌}
@@ -10,7 +10,7 @@ use Rattle.record.proofs.words.put_words.Statement.{statement}
 use Rattle.record.proofs.words.put_words.Tie as tie
 
 abbrev invariant-loop : tie.invariant-loop
-invariant-loop s₀ at values i₀ s i = (i ≤ 8) × ((length s ≡ length s₀) × (s ≡ modifyAt at 32 (writeItems (big 4) (take i values)) s₀))
+invariant-loop s₀ at values i₀ s i = (i ≤ 8) × ((length s ≡ length s₀) × (s ≡ modify_at at 32 (write_items (big 4) (take i values)) s₀))
 
 abbrev decreases-loop : tie.decreases-loop
 decreases-loop s₀ at values i₀ s i = 8 - i
@@ -46,8 +46,8 @@ loop-again c = let s = c.before.before.before.before.before.before.before in
       search rules,
       (
         c.before.before.put-u32.auto.0 ∙ l.invariant.1.0,
-        c.before.before.put-u32.ensures ∙ ap (modifyAt (s.args.at + 4 * l.i) 4 ((big 4).write (get_or s.args.t3 l.i 0))) l.invariant.1.1
-            ∙ lined-more s.args.s.now s.args.at s.args.t3 e s.requires l.i c.before.before.before.before.loop-test.true,
+        c.before.before.put-u32.ensures ∙ ap (modify_at (s.args.at + 4 * l.i) 4 ((big 4).write (get_or s.args.t3 l.i 0))) l.invariant.1.1
+            ∙ lined_more s.args.s.now s.args.at s.args.t3 e s.requires l.i c.before.before.before.before.loop-test.true,
       ),
     )
 
@@ -57,10 +57,10 @@ same_length c = search rules
 returns : tie.Need-returns invariant-loop decreases-loop
 returns c = let s = c.before.before.before in
     let e : length s.args.t3 ≡ 8 = search rules in
-    c.before.loop.invariant.1.1 ∙ lined-all s.args.s.now s.args.at s.args.t3 e s.requires c.before.loop.i (search rules)
+    c.before.loop.invariant.1.1 ∙ lined_all s.args.s.now s.args.at s.args.t3 e s.requires c.before.loop.i (search rules)
 
-pub put-words-spec : {M : Type 1} → statement M
-put-words-spec =
+pub put_words_spec : {M : Type 1} → statement M
+put_words_spec =
     tie.close
     (tie.spec
     invariant-loop

@@ -3,7 +3,7 @@ use Rattle.spec_base.proofs.Folds.{at_set}
 use lib.ListN.{length-set, length, get_or}
 use borrow.Author.Rules.{rules}
 use Rattle.spec_base.specs.Layout.{big, slice}
-use Rattle.record.proofs.FieldAccess.{words-read}
+use Rattle.record.proofs.FieldAccess.{words_read}
 use mathlib.Core.Path.{◌≡◌, sym, ap, ◌∙◌}
 use Prim.Native.Nat.{ℕ, ◌≤◌, ◌<◌, ◌-◌, ◌+◌, ◌*◌}
 use native.Mathlib.Omega.{arith}
@@ -54,10 +54,10 @@ loop-again c = let l = c.before.before.loop in
 
 returns : tie.Need-returns invariant-loop decreases-loop
 returns c = let s = c.before.before.before in
-    words-read s.args.s.now s.args.at c.before.loop.out c.before.loop.invariant.1.0 (λ k h. c.before.loop.invariant.1.1 k (omega arith))
+    words_read s.args.s.now s.args.at c.before.loop.out c.before.loop.invariant.1.0 (λ k h. c.before.loop.invariant.1.1 k (omega arith))
 
-pub words-at-spec : {M : Type 1} → statement M
-words-at-spec =
+pub words_at_spec : {M : Type 1} → statement M
+words_at_spec =
     tie.close
     (tie.spec
     invariant-loop

@@ -56,8 +56,8 @@ returns c = let a = c.before.before.args in
     let e : c.before.loop.i ≡ a.count = omega arith in
     c.before.loop.invariant.1.1 ∙ ap (copied a.s.now a.from a.to) e
 
-pub copy-bytes-spec : {M : Type 1} → statement M
-copy-bytes-spec =
+pub copy_bytes_spec : {M : Type 1} → statement M
+copy_bytes_spec =
     tie.close
     (tie.spec
     invariant-loop

@@ -38,8 +38,8 @@ returns-2 c =
     let way = c.before in
     kept _ _ _ way.before.before.forward-check.ensures way.before.is-pass.ensures way.if1.false c.reply-of.ensures
 
-pub forward-spec : {M : Type 1} → statement M
-forward-spec =
+pub forward_spec : {M : Type 1} → statement M
+forward_spec =
     tie.close
     (tie.spec
     forward-check-requires

@@ -7,9 +7,9 @@ use Rattle.spec_wire.specs.declared.Refusal.TheVariants.{Unclaimed, SelfSend, No
 use Rattle.spec_wire.proofs.RefusalTable.{goes}
 use Rattle.spec_arbiter.specs.Boards.{lowest}
 use Rattle.spec_rack.specs.Rules.{check}
-use Rattle.step_checks.proofs.CheckLaws.{held-is, forward-off-rack}
+use Rattle.step_checks.proofs.CheckLaws.{held_is, forward_off_rack}
 use Rattle.step_checks.proofs.RackBounds.{block_on, in_cell}
-use Rattle.step_send.proofs.SendTable.{line-is}
+use Rattle.step_send.proofs.SendTable.{line_is}
 use Rattle.step_send.proofs.forward.forward_check.Statement.{statement}
 use Rattle.step_send.proofs.forward.forward_check.Tie as tie
 
@@ -17,7 +17,7 @@ off-rack-requires : tie.Need-off-rack-requires
 off-rack-requires c κs = search rules
 
 returns : tie.Need-returns
-returns c = forward-off-rack _ _ _ c.before.off-rack.ensures c.if1.true
+returns c = forward_off_rack _ _ _ c.before.off-rack.ensures c.if1.true
 
 waiting-set-requires : tie.Need-waiting-set-requires
 waiting-set-requires c κs = (c.before.before.before.requires, block_on _ _ _ c.before.off-rack.ensures c.if1.false)
@@ -62,13 +62,13 @@ returns-2 c =
     let c8 = c7.before in
     let c9 = c8.before in
     goes _ _ _ _ (sym c9.before.off-rack.ensures ∙ c9.if1.false)
-    (line-is Unclaimed c.line4.ensures (λ i. eqb (c8.waiting-set.ensures i) 0)
-    (line-is SelfSend c1.line3.ensures (ap (eqb _) (c2.lowest.ensures ∙ ap lowest c8.waiting-set.ensures))
-    (line-is NoToken c3.line2.ensures (ap (λ (n : ℕ). eqb n 0) (held-is c7.token-state.ensures c6.held.ensures))
-    (line-is MeshFull c4.line.ensures c5.mesh-full.ensures refl))))
+    (line_is Unclaimed c.line4.ensures (λ i. eqb (c8.waiting-set.ensures i) 0)
+    (line_is SelfSend c1.line3.ensures (ap (eqb _) (c2.lowest.ensures ∙ ap lowest c8.waiting-set.ensures))
+    (line_is NoToken c3.line2.ensures (ap (λ (n : ℕ). eqb n 0) (held_is c7.token-state.ensures c6.held.ensures))
+    (line_is MeshFull c4.line.ensures c5.mesh-full.ensures refl))))
 
-pub forward-check-spec : {M : Type 1} → statement M
-forward-check-spec =
+pub forward_check_spec : {M : Type 1} → statement M
+forward_check_spec =
     tie.close
     (tie.spec
     off-rack-requires

@@ -1,5 +1,5 @@
 -- `step_send::send::append_message` meets its contract: the owner as it is marked, and the component's words, or none.
-use Rattle.step_send.proofs.SentTokens.{appended-data, appended-bare}
+use Rattle.step_send.proofs.SentTokens.{appended_data, appended_bare}
 use borrow.Author.Rules.{rules}
 use Rattle.step_send.proofs.send.append_message.Statement.{statement}
 use Rattle.step_send.proofs.send.append_message.Tie as tie
@@ -25,7 +25,7 @@ returns c =
     let way = told.before.before in
     let owner = way.before.taken-owner in
     let s = way.before.before.before in
-    appended-data s.args.rec.now (λ j. (way.before.before.slice-known.given j).fits) s.args.component s.args.block s.args.plain s.requires.0
+    appended_data s.args.rec.now (λ j. (way.before.before.slice-known.given j).fits) s.args.component s.args.block s.args.plain s.requires.0
     s.args.target s.ranges.target.fits s.args.owner s.args.«data» s.args.token owner.result s.requires.1 owner.ensures
     way.if1.true told.words_of.result told.words_of.ensures c.before.before.append.new.0 c.before.before.append.ensures
 
@@ -37,12 +37,12 @@ returns-2 c =
     let way = c.before.before.before.before in
     let owner = way.before.taken-owner in
     let s = way.before.before.before in
-    appended-bare s.args.rec.now (λ j. (way.before.before.slice-known.given j).fits) s.args.component s.args.block s.args.plain s.requires.0
+    appended_bare s.args.rec.now (λ j. (way.before.before.slice-known.given j).fits) s.args.component s.args.block s.args.plain s.requires.0
     s.args.target s.ranges.target.fits s.args.owner s.args.«data» s.args.token owner.result s.requires.1 owner.ensures
     way.if1.false c.before.before.append2.new.0 c.before.before.append2.ensures
 
-pub append-message-spec : {M : Type 1} → statement M
-append-message-spec =
+pub append_message_spec : {M : Type 1} → statement M
+append_message_spec =
     tie.close
     (tie.spec
     taken-owner-requires

@@ -2,7 +2,7 @@
 use mathlib.Core.Path.{refl}
 use borrow.Author.Rules.{rules}
 use Rattle.spec_rack.specs.Rules.{answer, after}
-use Rattle.step_checks.proofs.CheckFacts.{send-passed}
+use Rattle.step_checks.proofs.CheckFacts.{send_passed}
 use Rattle.step_checks.proofs.StepOutcome.{passes, made, kept}
 use Rattle.step_send.proofs.send.send.Statement.{statement}
 use Rattle.step_send.proofs.send.send.Tie as tie
@@ -24,7 +24,7 @@ send-tokens-requires : tie.Need-send-tokens-requires
 send-tokens-requires c κs =
     let k = c.before.before.before in
     let s = k.before.before.before in
-    send-passed s.args.rec.now s.requires s.args.component s.args.block s.args.target s.args.plain s.args.owner s.args.«data»
+    send_passed s.args.rec.now s.requires s.args.component s.args.block s.args.target s.args.plain s.args.owner s.args.«data»
     (passes _ _ _ k.send-check.ensures c.before.before.is-pass.ensures c.before.if1.true)
 
 same_length : tie.Need-same-length
@@ -42,8 +42,8 @@ returns-2 c =
     let way = c.before in
     kept _ _ _ way.before.before.send-check.ensures way.before.is-pass.ensures way.if1.false c.reply-of.ensures
 
-pub send-spec : {M : Type 1} → statement M
-send-spec =
+pub send_spec : {M : Type 1} → statement M
+send_spec =
     tie.close
     (tie.spec
     send-check-requires

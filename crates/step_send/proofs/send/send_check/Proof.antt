@@ -3,9 +3,9 @@ use mathlib.Core.Path.{refl}
 use borrow.Author.Rules.{rules}
 use Rattle.spec_wire.specs.declared.Refusal.TheVariants.{OffRack, SelfSend, Claimed}
 use Rattle.spec_rack.specs.Rules.{check}
-use Rattle.step_checks.proofs.CheckLaws.{send-off-rack}
+use Rattle.step_checks.proofs.CheckLaws.{send_off_rack}
 use Rattle.step_checks.proofs.RackBounds.{block_on, in_cell}
-use Rattle.step_send.proofs.SendTable.{line-is, target_is, claimed-is, tokens-are}
+use Rattle.step_send.proofs.SendTable.{line_is, target_is, claimed_is, tokens_are}
 use Rattle.step_send.proofs.send.send_check.Statement.{statement}
 use Rattle.step_send.proofs.send.send_check.Tie as tie
 
@@ -15,15 +15,15 @@ returns-2 : tie.Need-returns-2
 unfolding check
 returns-2 c =
     let apart = c.before.before in
-    line-is OffRack c.line3.ensures (let early = apart.before.before.before.before.before.before in search target_is)
-    (line-is SelfSend apart.line2.ensures refl
-    (line-is Claimed apart.before.line.ensures (search claimed-is) (search tokens-are)))
+    line_is OffRack c.line3.ensures (let early = apart.before.before.before.before.before.before in search target_is)
+    (line_is SelfSend apart.line2.ensures refl
+    (line_is Claimed apart.before.line.ensures (search claimed_is) (search tokens_are)))
 
 off-rack-requires : tie.Need-off-rack-requires
 off-rack-requires c κs = search rules
 
 returns : tie.Need-returns
-returns c = send-off-rack _ _ _ c.before.off-rack.ensures c.if1.true _ _ _ _
+returns c = send_off_rack _ _ _ c.before.off-rack.ensures c.if1.true _ _ _ _
 
 token-state-requires : tie.Need-token-state-requires
 token-state-requires c κs = in_cell _ _ _ c.before.off-rack.ensures c.if1.false c.before.before.before.requires
@@ -52,8 +52,8 @@ shared-slice-read-line c = search rules
 line-requires-3 : tie.Need-line-requires-3
 line-requires-3 c κs = search rules
 
-pub send-check-spec : {M : Type 1} → statement M
-send-check-spec =
+pub send_check_spec : {M : Type 1} → statement M
+send_check_spec =
     tie.close
     (tie.spec
     off-rack-requires

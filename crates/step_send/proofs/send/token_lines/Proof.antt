@@ -4,7 +4,7 @@ use mathlib.Core.Bool.{Bool, not, ◌&&◌, ◌||◌}
 use Prim.Native.Nat.{ℕ}
 use lib.Dec.{eqb, ltb}
 use Rattle.spec_wire.specs.declared.Refusal.TheVariants.{Empty, NotHeld, BareOwner, NoData, MeshFull}
-use Rattle.step_send.proofs.SendTable.{line-is}
+use Rattle.step_send.proofs.SendTable.{line_is}
 use borrow.Author.Rules.{rules}
 use Rattle.step_send.proofs.send.token_lines.Statement.{statement}
 use Rattle.step_send.proofs.send.token_lines.Tie as tie
@@ -66,16 +66,16 @@ returns c =
     let c12 = c11.before in
     let c14 = c12.before.before in
     let s = c14.before.before.before in
-    line-is Empty c.line5.ensures (ap (λ (n : ℕ). eqb n 0) c1.token-count.ensures)
-    (line-is NotHeld c2.line4.ensures
+    line_is Empty c.line5.ensures (ap (λ (n : ℕ). eqb n 0) c1.token-count.ensures)
+    (line_is NotHeld c2.line4.ensures
     (c3.either.ensures
     ∙ ap (λ (o : Bool). ltb s.args.state.plain s.args.plain || o) (c4.both4.ensures ∙ (λ i. s.args.owner && not (c5.is-present.ensures i))))
-    (line-is BareOwner c7.line3.ensures (c8.both3.ensures ∙ (λ i. c10.both2.ensures i && not (c9.may-go-bare.ensures i)))
-    (line-is NoData c11.line2.ensures c12.both.ensures
-    (line-is MeshFull c14.line.ensures c14.before.mesh-full.ensures refl))))
+    (line_is BareOwner c7.line3.ensures (c8.both3.ensures ∙ (λ i. c10.both2.ensures i && not (c9.may-go-bare.ensures i)))
+    (line_is NoData c11.line2.ensures c12.both.ensures
+    (line_is MeshFull c14.line.ensures c14.before.mesh-full.ensures refl))))
 
-pub token-lines-spec : {M : Type 1} → statement M
-token-lines-spec =
+pub token_lines_spec : {M : Type 1} → statement M
+token_lines_spec =
     tie.close
     (tie.spec
     mesh-full-requires

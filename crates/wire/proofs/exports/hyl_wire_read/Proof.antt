@@ -12,11 +12,11 @@ use Rattle.spec_wire.specs.Results.{done, refused}
 use Rattle.spec_wire.specs.declared.Step.{Step}
 use Rattle.spec_wire.specs.declared.Reading.{Reading}
 use Rattle.spec_wire.specs.declared.Reading.TheVariants.{Step as Read, Refused}
-use Rattle.spec_wire.specs.Kinds.{fieldArray}
+use Rattle.spec_wire.specs.Kinds.{field_array}
 use Rattle.spec_base.specs.Placing.{place}
-use Rattle.spec_wire.specs.FieldArray.{readResult, readAfter}
-use Rattle.spec_wire.proofs.KindTable.{places-length}
-use Rattle.wire_writer.proofs.PlacedRecord.{placed-room, placed-short}
+use Rattle.spec_wire.specs.FieldArray.{read_result, read_after}
+use Rattle.spec_wire.proofs.KindTable.{places_length}
+use Rattle.wire_writer.proofs.PlacedRecord.{placed_room, placed_short}
 use borrow.Author.Rules.{rules}
 use Rattle.wire.proofs.exports.hyl_wire_read.Statement.{statement}
 use Rattle.wire.proofs.exports.hyl_wire_read.Tie as tie
@@ -30,22 +30,22 @@ fallen t s a e h = ap (λ (u : Bool). cond u (Read s) (Refused Torn)) (sym h) �
 
 -- the three answers
 module _ (a : Reading) where
-  torn : (r : Refusal) (out : List ℕ) {n : ℕ} → Refused r ≡ a → n ≡ refused r → (n ≡ readResult a out) × (out ≡ readAfter a out)
-  unfolding readResult readAfter
+  torn : (r : Refusal) (out : List ℕ) {n : ℕ} → Refused r ≡ a → n ≡ refused r → (n ≡ read_result a out) × (out ≡ read_after a out)
+  unfolding read_result read_after
   torn r out e p = rw (← e) (p, refl)
 
   module _ (s : Step) (out : List ℕ) (e : Read s ≡ a) where
-    short : length out < 12 → {n : ℕ} → n ≡ refused ShortBuffer → (n ≡ readResult a out) × (out ≡ readAfter a out)
-    unfolding readResult readAfter
+    short : length out < 12 → {n : ℕ} → n ≡ refused ShortBuffer → (n ≡ read_result a out) × (out ≡ read_after a out)
+    unfolding read_result read_after
     short h p =
-        let no_room : length out < 0 + length (fieldArray s) = omega (arith, places-length s) in
-        rw (← e, lt-leb (0 + length (fieldArray s)) (length out) no_room) (p, placed-short (fieldArray s) 0 out no_room)
+        let no_room : length out < 0 + length (field_array s) = omega (arith, places_length s) in
+        rw (← e, lt-leb (0 + length (field_array s)) (length out) no_room) (p, placed_short (field_array s) 0 out no_room)
 
-    full : 12 ≤ length out → {n : ℕ} {after : List ℕ} → n ≡ done 0 → after ≡ place 0 (fieldArray s) out → (n ≡ readResult a out) × (after ≡ readAfter a out)
-    unfolding readResult readAfter
+    full : 12 ≤ length out → {n : ℕ} {after : List ℕ} → n ≡ done 0 → after ≡ place 0 (field_array s) out → (n ≡ read_result a out) × (after ≡ read_after a out)
+    unfolding read_result read_after
     full h p q =
-        let room : 0 + length (fieldArray s) ≤ length out = omega (arith, places-length s) in
-        rw (← e, le-leb (0 + length (fieldArray s)) (length out) room) (p, q ∙ placed-room (fieldArray s) 0 out room)
+        let room : 0 + length (field_array s) ≤ length out = omega (arith, places_length s) in
+        rw (← e, le-leb (0 + length (field_array s)) (length out) room) (p, q ∙ placed_room (field_array s) 0 out room)
 
 parse-requires : tie.Need-parse-requires
 parse-requires c κs = search rules
@@ -84,8 +84,8 @@ pack-done-requires c κs = search rules
 same_length : tie.Need-same-length
 same_length c = search rules
 
-pub hyl-wire-read-spec : {M : Type 1} → statement M
-hyl-wire-read-spec =
+pub hyl_wire_read_spec : {M : Type 1} → statement M
+hyl_wire_read_spec =
     tie.close
     (tie.spec
     parse-requires

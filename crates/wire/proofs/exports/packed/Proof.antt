@@ -1,7 +1,7 @@
 -- `wire::exports::packed` meets its contract: the count or the refusal, as one number.
 use mathlib.Core.Path.{sym, ap, ◌∙◌}
 use native.Mathlib.Omega.{arith}
-use Rattle.spec_wire.specs.FieldArray.{writeResult}
+use Rattle.spec_wire.specs.FieldArray.{write_result}
 use borrow.Author.Rules.{rules}
 use Rattle.wire.proofs.exports.packed.Statement.{statement}
 use Rattle.wire.proofs.exports.packed.Tie as tie
@@ -22,13 +22,13 @@ pack-refused-requires : tie.Need-pack-refused-requires
 pack-refused-requires c κs = search rules
 
 returns : tie.Need-returns
-returns c = c.pack-done.ensures ∙ ap writeResult (sym c.before.before.wrote.given.1)
+returns c = c.pack-done.ensures ∙ ap write_result (sym c.before.before.wrote.given.1)
 
 returns-2 : tie.Need-returns-2
-returns-2 c = c.pack-refused.ensures ∙ ap writeResult (sym c.before.before.wrote2.given.1)
+returns-2 c = c.pack-refused.ensures ∙ ap write_result (sym c.before.before.wrote2.given.1)
 
-pub packed-spec : {M : Type 1} → statement M
-packed-spec =
+pub packed_spec : {M : Type 1} → statement M
+packed_spec =
     tie.close
     (tie.spec
     enum-known-wrote

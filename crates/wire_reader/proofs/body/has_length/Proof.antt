@@ -41,8 +41,8 @@ returns c =
     let s = high.before.before.before in
     (λ i. eqb (high.wide.ensures.0 i + c.wide2.ensures.0 i * 256) (s.args.field.width * 256))
 
-pub has-length-spec : {M : Type 1} → statement M
-has-length-spec =
+pub has_length_spec : {M : Type 1} → statement M
+has_length_spec =
     tie.close
     (tie.spec
     add_wide

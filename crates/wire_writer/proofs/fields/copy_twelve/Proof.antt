@@ -64,8 +64,8 @@ returns c =
     let done : loop.i ≡ 12 = omega arith in
     copied args.numbers.now args.out.now c.before.before.requires.0 (rw done at loop.invariant.2)
 
-pub copy-twelve-spec : {M : Type 1} → statement M
-copy-twelve-spec =
+pub copy_twelve_spec : {M : Type 1} → statement M
+copy_twelve_spec =
     tie.close
     (tie.spec
     invariant-loop

@@ -1,5 +1,5 @@
 -- `wire_writer::fields::field_array` meets its contract: each arm has the numbers of its step.
-use Rattle.spec_wire.specs.Kinds.{fieldArray}
+use Rattle.spec_wire.specs.Kinds.{field_array}
 use borrow.Author.Rules.{rules}
 use Rattle.wire_writer.proofs.fields.field_array.Statement.{statement}
 use Rattle.wire_writer.proofs.fields.field_array.Tie as tie
@@ -47,35 +47,35 @@ array-of-four-requires-5 : tie.Need-array-of-four-requires-5
 array-of-four-requires-5 c κs = search rules
 
 returns : tie.Need-returns
-unfolding fieldArray
+unfolding field_array
 returns c = rw c.before.before.step.given.1 c.array-of-four.ensures
 
 returns-2 : tie.Need-returns-2
-unfolding fieldArray
+unfolding field_array
 returns-2 c = rw c.before.before.step2.given.1 c.array-of-four2.ensures
 
 returns-3 : tie.Need-returns-3
-unfolding fieldArray
+unfolding field_array
 returns-3 c = rw c.before.before.step3.given.1 c.send-array.ensures
 
 returns-4 : tie.Need-returns-4
-unfolding fieldArray
+unfolding field_array
 returns-4 c = rw c.before.step4.given.1
 
 returns-5 : tie.Need-returns-5
-unfolding fieldArray
+unfolding field_array
 returns-5 c = rw c.before.before.step5.given.1 c.array-of-four3.ensures
 
 returns-6 : tie.Need-returns-6
-unfolding fieldArray
+unfolding field_array
 returns-6 c = rw c.before.before.step6.given.1 c.array-of-four4.ensures
 
 returns-7 : tie.Need-returns-7
-unfolding fieldArray
+unfolding field_array
 returns-7 c = rw c.before.before.step7.given.1 c.array-of-four5.ensures
 
-pub field-array-spec : {M : Type 1} → statement M
-field-array-spec =
+pub field_array_spec : {M : Type 1} → statement M
+field_array_spec =
     tie.close
     (tie.spec
     enum-known-step

@@ -6,15 +6,15 @@ use native.Mathlib.Omega.{arith}
 use borrow.Author.Rules.{rules}
 use mathlib.Core.List.{map}
 use lib.ListN.{length, drop, get_or, drop_of_length-le}
-use Rattle.spec_wire.specs.Kinds.{fieldOf}
-use Rattle.spec_wire.specs.StepRecord.{fieldSizes}
+use Rattle.spec_wire.specs.Kinds.{field_of}
+use Rattle.spec_wire.specs.StepRecord.{field_sizes}
 use Rattle.spec_base.proofs.Lists.{map_next}
 use Rattle.spec_wire.proofs.KindTable.{width_fits}
 use Rattle.wire_writer.proofs.fields.fields_size.Statement.{statement}
 use Rattle.wire_writer.proofs.fields.fields_size.Tie as tie
 
 abbrev invariant-loop : tie.invariant-loop
-invariant-loop tags sum₀ i₀ sum i = (i ≤ length tags) × (sum ≤ 7 * i) × (sum + fieldSizes (map fieldOf (drop i tags)) ≡ fieldSizes (map fieldOf tags))
+invariant-loop tags sum₀ i₀ sum i = (i ≤ length tags) × (sum ≤ 7 * i) × (sum + field_sizes (map field_of (drop i tags)) ≡ field_sizes (map field_of tags))
 
 abbrev decreases-loop : tie.decreases-loop
 decreases-loop tags sum₀ i₀ sum i = length tags - i
@@ -48,8 +48,8 @@ loop-again : tie.Need-loop-preserved invariant-loop decreases-loop
 loop-again c =
     let at = c.before.before.before.before.loop in
     let tags = c.before.before.before.before.before.before.args.tags.now in
-    let field : c.before.field_of.result ≡ fieldOf (get_or tags at.i 0) = c.before.field_of.ensures in
-    (omega arith, omega (arith, width c), rw field (omega (arith, ap fieldSizes (map_next fieldOf tags at.i c.before.before.before.loop-test.true))))
+    let field : c.before.field_of.result ≡ field_of (get_or tags at.i 0) = c.before.field_of.ensures in
+    (omega arith, omega (arith, width c), rw field (omega (arith, ap field_sizes (map_next field_of tags at.i c.before.before.before.loop-test.true))))
 
 returns : tie.Need-returns invariant-loop decreases-loop
 returns c =
@@ -57,8 +57,8 @@ returns c =
     let tags = c.before.before.before.args.tags.now in
     simp (drop_of_length-le tags {i = at.i} c.loop-test.false, add-zero) at at.invariant.2
 
-pub fields-size-spec : {M : Type 1} → statement M
-fields-size-spec =
+pub fields_size_spec : {M : Type 1} → statement M
+fields_size_spec =
     tie.close
     (tie.spec
     invariant-loop

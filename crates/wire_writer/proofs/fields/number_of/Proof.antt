@@ -21,6 +21,6 @@ returns c = (refl, omega (arith, c.shared-slice-known.given c.before.before.args
 returns-2 : tie.Need-returns-2
 returns-2 c = (sym (get_or-eq_default c.before.args.numbers.now 0 c.if1.false), omega arith)
 
-pub number-of-spec : {M : Type 1} → statement M
-number-of-spec =
+pub number_of_spec : {M : Type 1} → statement M
+number_of_spec =
     tie.close (tie.spec mul-result shared-slice-read-result cast-result returns returns-2)

@@ -8,26 +8,26 @@ use mathlib.Core.List.{List, [], ◌∷◌}
 use lib.ListN.{length, take, drop, set, length-set}
 use borrow.Rule.Slice.PartMut.{put_mid}
 use Rattle.spec_base.specs.Number.{digits}
-use Rattle.spec_wire.specs.StepRecord.{fieldSize, fieldBytes}
+use Rattle.spec_wire.specs.StepRecord.{field_size, field_bytes}
 use Rattle.spec_base.specs.Placing.{place}
 use Rattle.spec_base.proofs.Numbers.{length_digits}
-use Rattle.wire_writer.proofs.FieldOrder.{length-head, place-number, place-head, place-framed}
+use Rattle.wire_writer.proofs.FieldOrder.{length_head, place_number, place_head, place_framed}
 use borrow.Author.Rules.{rules}
 use Rattle.wire_writer.proofs.fields.put_field.Statement.{statement}
 use Rattle.wire_writer.proofs.fields.put_field.Tie as tie
 
 -- the buffer after the three runs of bytes
-finished : (f : Field) (v : ℕ) (out a b : List ℕ) → fieldSize f ≤ length out
+finished : (f : Field) (v : ℕ) (out a b : List ℕ) → field_size f ≤ length out
     → a ≡ digits (length (take 2 (drop 1 (set out 0 f.tag)))) f.width
-    → b ≡ digits (length (take (fieldSize f - 3) (drop 3 (put_mid 1 2 (set out 0 f.tag) a)))) v
-    → put_mid 3 (fieldSize f - 3) (put_mid 1 2 (set out 0 f.tag) a) b ≡ place 0 (fieldBytes f v) out
-unfolding fieldBytes
+    → b ≡ digits (length (take (field_size f - 3) (drop 3 (put_mid 1 2 (set out 0 f.tag) a)))) v
+    → put_mid 3 (field_size f - 3) (put_mid 1 2 (set out 0 f.tag) a) b ≡ place 0 (field_bytes f v) out
+unfolding field_bytes
 finished f v out a b h p q =
-    let width : fieldSize f - 3 ≡ f.width = add-sub_cancel_left 3 f.width in
-    let head : put_mid 1 2 (set out 0 f.tag) a ≡ place 1 (digits 2 f.width) (place 0 (f.tag ∷ []) out) = place-head f.tag f.width out a (omega arith) p in
-    let long : length (put_mid 1 2 (set out 0 f.tag) a) ≡ length out = ap length head ∙ length-head f.tag f.width out (omega arith) in
-    place-number 3 (fieldSize f) v (put_mid 1 2 (set out 0 f.tag) a) b (omega arith) q
-    ∙ rw (width, head) (place-framed f.tag f.width (digits f.width v) out (omega (arith, length_digits f.width v)))
+    let width : field_size f - 3 ≡ f.width = add-sub_cancel_left 3 f.width in
+    let head : put_mid 1 2 (set out 0 f.tag) a ≡ place 1 (digits 2 f.width) (place 0 (f.tag ∷ []) out) = place_head f.tag f.width out a (omega arith) p in
+    let long : length (put_mid 1 2 (set out 0 f.tag) a) ≡ length out = ap length head ∙ length_head f.tag f.width out (omega arith) in
+    place_number 3 (field_size f) v (put_mid 1 2 (set out 0 f.tag) a) b (omega arith) q
+    ∙ rw (width, head) (place_framed f.tag f.width (digits f.width v) out (omega (arith, length_digits f.width v)))
 
 add-end : tie.Need-overflow-add-end
 add-end c = search rules
@@ -77,8 +77,8 @@ returns c =
     let long = first.before.before.before.requires in
     (refl, finished args.field args.value args.out.now _ _ long first.put-number.ensures c.before.before.put-number2.ensures)
 
-pub put-field-spec : {M : Type 1} → statement M
-put-field-spec =
+pub put_field_spec : {M : Type 1} → statement M
+put_field_spec =
     tie.close
     (tie.spec
     add-end

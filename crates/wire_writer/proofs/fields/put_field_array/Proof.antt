@@ -6,8 +6,8 @@ use mathlib.Core.List.{List}
 use lib.ListN.{take}
 use lib.Seq.{take_all}
 use Rattle.spec_wire.specs.declared.Step.{Step}
-use Rattle.spec_wire.specs.Kinds.{fieldArray}
-use Rattle.spec_wire.proofs.KindTable.{places-length}
+use Rattle.spec_wire.specs.Kinds.{field_array}
+use Rattle.spec_wire.proofs.KindTable.{places_length}
 use Rattle.spec_base.specs.Placing.{place}
 use borrow.Author.Rules.{rules}
 use Rattle.wire_writer.proofs.fields.put_field_array.Statement.{statement}
@@ -25,8 +25,8 @@ copy-twelve-requires c κs = search rules
 same_length : tie.Need-same-length
 same_length c = search rules
 
-twelve : (s : Step) (p out : List ℕ) {after : List ℕ} → p ≡ fieldArray s → after ≡ place 0 (take 12 p) out → after ≡ place 0 (fieldArray s) out
-twelve s p out e h = rw (e, take_all 12 (fieldArray s) (omega (arith, places-length s))) at h
+twelve : (s : Step) (p out : List ℕ) {after : List ℕ} → p ≡ field_array s → after ≡ place 0 (take 12 p) out → after ≡ place 0 (field_array s) out
+twelve s p out e h = rw (e, take_all 12 (field_array s) (omega (arith, places_length s))) at h
 
 returns : tie.Need-returns
 returns c =
@@ -34,8 +34,8 @@ returns c =
     let made = copied.before.before.before in
     twelve made.before.before.args.step _ _ made.field-array.ensures copied.copy-twelve.ensures
 
-pub put-field-array-spec : {M : Type 1} → statement M
-put-field-array-spec =
+pub put_field_array_spec : {M : Type 1} → statement M
+put_field_array_spec =
     tie.close
     (tie.spec
     field-array-requires

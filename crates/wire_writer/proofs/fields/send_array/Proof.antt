@@ -12,5 +12,5 @@ cast-t12 c = search rules
 returns : tie.Need-returns
 returns c = search rules
 
-pub send-array-spec : {M : Type 1} → statement M
-send-array-spec = tie.close (tie.spec cast-t11 cast-t12 returns)
+pub send_array_spec : {M : Type 1} → statement M
+send_array_spec = tie.close (tie.spec cast-t11 cast-t12 returns)

@@ -3,20 +3,20 @@ use mathlib.Core.Path.{◌≡◌, refl}
 use Prim.Native.Nat.{◌*◌, ◌-◌, ◌≤◌}
 use native.Mathlib.Omega.{arith}
 use lib.ListN.{get_or}
-use Rattle.spec_base.specs.Folds.{sumBelow}
-use Rattle.spec_base.proofs.Folds.{sum-next}
+use Rattle.spec_base.specs.Folds.{sum_below}
+use Rattle.spec_base.proofs.Folds.{sum_next}
 use borrow.Author.Rules.{rules}
 use Rattle.wire_writer.proofs.fields.total.Statement.{statement}
 use Rattle.wire_writer.proofs.fields.total.Tie as tie
 
 abbrev invariant-loop : tie.invariant-loop
-invariant-loop numbers sum₀ i₀ sum i = (i ≤ 12) × (sum ≤ i * 0x1_0000_0000) × (sum ≡ sumBelow i (λ k. get_or numbers k 0))
+invariant-loop numbers sum₀ i₀ sum i = (i ≤ 12) × (sum ≤ i * 0x1_0000_0000) × (sum ≡ sum_below i (λ k. get_or numbers k 0))
 
 abbrev decreases-loop : tie.decreases-loop
 decreases-loop numbers sum₀ i₀ sum i = 12 - i
 
 loop-holds : tie.Need-loop-init invariant-loop decreases-loop
-unfolding sumBelow
+unfolding sum_below
 loop-holds c = (omega arith, omega arith, refl)
 
 number-of-requires : tie.Need-number-of-requires invariant-loop decreases-loop
@@ -36,7 +36,7 @@ loop-again c =
     let loop = c.before.before.loop in
     let numbers = c.before.before.before.before.args.numbers.now in
     let here = c.number_of_lem.ensures in
-    (omega arith, omega (arith, here.1), omega (arith, here.0, loop.invariant.2, sum-next (λ k. get_or numbers k 0) loop.i))
+    (omega arith, omega (arith, here.1), omega (arith, here.0, loop.invariant.2, sum_next (λ k. get_or numbers k 0) loop.i))
 
 returns : tie.Need-returns invariant-loop decreases-loop
 returns c =
@@ -44,8 +44,8 @@ returns c =
     let done : loop.i ≡ 12 = omega arith in
     rw done at loop.invariant.2
 
-pub total-spec : {M : Type 1} → statement M
-total-spec =
+pub total_spec : {M : Type 1} → statement M
+total_spec =
     tie.close
     (tie.spec
     invariant-loop

@@ -10,23 +10,23 @@ use lib.Dec.{eqb, ltb}
 use borrow.Author.Rules.{rules}
 use borrow.Author.Tests.{lt-ltb, le-ltb}
 use Rattle.spec_wire.specs.declared.Field.{Field}
-use Rattle.spec_wire.specs.Kinds.{fieldOf, value_of}
+use Rattle.spec_wire.specs.Kinds.{field_of, value_of}
 use Rattle.spec_base.proofs.Lists.{map_next}
-use Rattle.wire_writer.specs.FieldSum.{fieldsSumTo}
+use Rattle.wire_writer.specs.FieldSum.{fields_sum_to}
 use Rattle.wire_writer.proofs.validate.fields_sum_to.Statement.{statement}
 use Rattle.wire_writer.proofs.validate.fields_sum_to.Tie as tie
 
 -- the field at i, and those left
 module _ (count : ℕ) (tags p : List ℕ) (total i n : ℕ) where
   abbrev Left : ℕ → ℕ → Bool
-  Left j m = fieldsSumTo (map fieldOf (drop j (take count tags))) m total p
+  Left j m = fields_sum_to (map field_of (drop j (take count tags))) m total p
 
-  module _ (more : i < count) (long : count ≤ length tags) (f : Field) (is : f ≡ fieldOf (get_or tags i 0)) (v : ℕ) (read : v ≡ value_of f p) where
+  module _ (more : i < count) (long : count ≤ length tags) (f : Field) (is : f ≡ field_of (get_or tags i 0)) (v : ℕ) (read : v ≡ value_of f p) where
     next : Left i n ≡ (ltb v f.limit && Left (i + 1) (n + v))
-    unfolding fieldsSumTo
+    unfolding fields_sum_to
     next =
         let here : get_or (take count tags) i 0 ≡ get_or tags i 0 = rw get_or-take in
-        rw (read, map_next fieldOf (take count tags) i (rw (length-take-le count tags long) more), here, is)
+        rw (read, map_next field_of (take count tags) i (rw (length-take-le count tags long) more), here, is)
 
     over : f.limit ≤ v → {all : Bool} → Left i n ≡ all → false ≡ all
     over h e = rw (le-ltb v f.limit h) at (sym next ∙ e)
@@ -35,13 +35,13 @@ module _ (count : ℕ) (tags p : List ℕ) (total i n : ℕ) where
     under h e = rw (lt-ltb v f.limit h) at (sym next ∙ e)
 
   done : count ≤ i → count ≤ length tags → {all : Bool} → Left i n ≡ all → eqb n total ≡ all
-  unfolding fieldsSumTo
+  unfolding fields_sum_to
   done h long e = rw (drop_of_length-le (take count tags) {i = i} (omega (arith, length-take-le count tags long))) at e
 
 abbrev invariant-loop : tie.invariant-loop
 invariant-loop numbers kind total count tags sum₀ i₀ sum i =
     (i ≤ count) × (sum ≤ (i + 1) * 0x1_0000_0000)
-    × (fieldsSumTo (map fieldOf (drop i (take count tags))) sum total numbers ≡ fieldsSumTo (map fieldOf (take count tags)) kind total numbers)
+    × (fields_sum_to (map field_of (drop i (take count tags))) sum total numbers ≡ fields_sum_to (map field_of (take count tags)) kind total numbers)
 
 abbrev decreases-loop : tie.decreases-loop
 decreases-loop numbers kind total count tags sum₀ i₀ sum i = count - i
@@ -93,8 +93,8 @@ returns-2 c =
     let tags = c.before.before.before.tags-of.ensures in
     rw (← tags.fields) (done _ _ _ _ loop.i loop.sum c.loop-test.false tags.long loop.invariant.2)
 
-pub fields-sum-to-spec : {M : Type 1} → statement M
-fields-sum-to-spec =
+pub fields_sum_to_spec : {M : Type 1} → statement M
+fields_sum_to_spec =
     tie.close
     (tie.spec
     invariant-loop

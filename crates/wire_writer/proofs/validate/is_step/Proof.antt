@@ -22,7 +22,7 @@ returns-2 c =
     let sum = c.before in
     tells _ (omega arith) _ sum.total.ensures _ c.fields-sum-to.ensures
 
-pub is-step-spec : {M : Type 1} → statement M
-is-step-spec =
+pub is_step_spec : {M : Type 1} → statement M
+is_step_spec =
     tie.close
     (tie.spec returns shared-slice-read-make-up total-requires fields-sum-to-requires returns-2)
