@@ -1,0 +1,17 @@
+-- `base::all_zero` meets its contract: after i turns the first i bytes have been tested.
+use Prim.Native.Nat.{ℕ, ◌+◌, ◌-◌, ◌≤◌}
+use native.Mathlib.Omega.{arith}
+use mathlib.Core.Path.{◌≡◌, sym, ap, ◌∙◌}
+use mathlib.Core.Bool.{Bool, ◌&&◌}
+use lib.ListN.{get_or}
+use lib.Dec.{eqb}
+use Rattle.spec_base.specs.Folds.{all_below}
+use Rattle.spec_base.proofs.Folds.{below_none, below_next}
+use borrow.Author.Rules.{rules}
+use Rattle.base.proofs.all_zero.Given as goal
+
+abbrev pub invariant-loop-i : goal.invariant-loop-i
+invariant-loop-i l = (l.i ≤ l.count) × (l.clear ≡ all_below l.i (λ k. eqb (get_or l.bytes (l.at + k) 0) 0))
+
+abbrev pub decreases-loop-i : goal.decreases-loop-i
+decreases-loop-i l = l.count - l.i
