@@ -2,7 +2,7 @@
 use spec_wire::Refusal;
 
 // What an accepted step gives.
-#[derive(Drop)]
+#[derive(Clone, Copy)]
 pub enum Answer {
     Done,
     Word(u32),
@@ -11,14 +11,14 @@ pub enum Answer {
 }
 
 // The reply to a step or an opening.
-#[derive(Drop)]
+#[derive(Clone, Copy)]
 pub enum Reply {
     Accepted(Answer),
     Refused(Refusal),
 }
 
 // The state letter of a board and a block.
-#[derive(Drop)]
+#[derive(Clone, Copy)]
 pub enum Letter {
     M,
     O,
@@ -28,7 +28,7 @@ pub enum Letter {
 }
 
 // The reply to a question for the state letter.
-#[derive(Drop)]
+#[derive(Clone, Copy)]
 pub enum Lettered {
     Letter(Letter),
     Refused(Refusal),
@@ -36,7 +36,7 @@ pub enum Lettered {
 
 // The owner token of a block, as a component or a message has it: there with its mark, or away. Dirty: on every record that an opening led to, the block
 // was stored to since the owner was last at home. No byte depends on the order of the three.
-#[derive(Drop)]
+#[derive(Clone, Copy)]
 pub enum Owner {
     Clean,
     Dirty,
@@ -44,7 +44,7 @@ pub enum Owner {
 }
 
 // What stands in front of a message's words: its ends, its block, its tokens, and whether the words are data.
-#[derive(Drop)]
+#[derive(Clone, Copy)]
 pub struct MessageHeader {
     pub sender: u8,
     pub target: u8,
@@ -54,7 +54,7 @@ pub struct MessageHeader {
     pub data: bool,
 }
 
-#[derive(Drop)]
+#[derive(Clone, Copy)]
 pub struct Message {
     pub header: MessageHeader,
     pub words: [u32; 8],

@@ -1,7 +1,7 @@
 // The sizes of a rack, as an opening names them. There is no code.
 
 // N, B and T, and the most messages in flight (document 02, No. 5).
-#[derive(Drop)]
+#[derive(Clone, Copy)]
 pub struct Sizes {
     pub boards: u32,
     pub blocks: u32,

@@ -1,7 +1,7 @@
 // Step records and the refusal table: types, kind bytes and tags. There is no code.
 
 // A line of the table for each number, in the order of the numbers.
-#[derive(Drop)]
+#[derive(Clone, Copy)]
 pub enum Refusal {
     Torn,
     Unsound,
@@ -26,14 +26,14 @@ pub enum Refusal {
 }
 
 // The verdict of a run down the table: no line of it matched, or the first that did.
-#[derive(Drop)]
+#[derive(Clone, Copy)]
 pub enum Check {
     Pass,
     Refuse(Refusal),
 }
 
 // A step of the hub card.
-#[derive(Drop)]
+#[derive(Clone, Copy)]
 pub enum Step {
     Load {
         component: u8,
@@ -72,14 +72,14 @@ pub enum Step {
 }
 
 // What reading bytes gives: the step that they are the record of, or a refusal.
-#[derive(Drop)]
+#[derive(Clone, Copy)]
 pub enum Reading {
     Step(Step),
     Refused(Refusal),
 }
 
 // A field of a record: its tag, the width of its value in bytes, and the number that its value stays below.
-#[derive(Drop)]
+#[derive(Clone, Copy)]
 pub struct Field {
     pub tag: u8,
     pub width: usize,
@@ -87,7 +87,7 @@ pub struct Field {
 }
 
 // What writing a step gives: the count of bytes placed, or a refusal.
-#[derive(Drop)]
+#[derive(Clone, Copy)]
 pub enum Written {
     Count(usize),
     Refused(Refusal),

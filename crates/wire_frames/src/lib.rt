@@ -1,4 +1,6 @@
 // A list of step records in one slice, split into frames by their lengths.
+#![tactic(auto)]
+
 ghost use Rattle.std.specs.Prelude.{◌≡◌, ◌+◌, ◌≤◌, ◌<◌, length, drop};
 ghost use Rattle.spec_wire.specs.Frames.{frame_size};
 

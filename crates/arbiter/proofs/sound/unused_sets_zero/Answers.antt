@@ -1,0 +1,10 @@
+-- `arbiter::sound::unused_sets_zero` meets its contract: place 0 and the places above the last board are all that the layout asks of them.
+use mathlib.Core.Path.{sym, ◌∙◌}
+use mathlib.Core.Bool.{◌&&◌}
+use Rattle.arbiter.proofs.SetBytes.{claims_formed}
+use borrow.Author.Rules.{rules}
+use Rattle.arbiter.proofs.sound.unused_sets_zero.Goals as goal
+
+pub returns : goal.returns
+returns c = c.both.ensures ∙ (λ i. c.all_zero.ensures i && c.all_zero-2.ensures i)
+    ∙ sym (claims_formed c.args.boards c.args.at c.args.rec.now c.requires.1)

@@ -1,0 +1,10 @@
+-- `record::cells::words_of` meets its contract: the eight words are read where the layout has them.
+use mathlib.Core.Path.{◌∙◌}
+use Rattle.record.proofs.FieldAccess.{words_is}
+use borrow.Author.Rules.{rules}
+use Rattle.record.proofs.cells.words_of.Goals as goal
+
+pub returns : goal.returns
+returns c = c.words_at.ensures
+    ∙ words_is c.args.rec.now (λ k. (c.shared_slice_known-1.given k).fits) c.args.block c.args.component c.requires
+    c.words_offset-at.result c.words_offset-at.ensures
