@@ -1,5 +1,7 @@
 // The mesh in the record: the messages in flight, oldest first.
 // order: bytes, lib
+#![tactic(auto)]
+
 pub mod bytes;
 
 ghost use Rattle.std.specs.Prelude.{◌≡◌, [], ◌∷◌, ◌++◌, ◌+◌, ◌*◌, ◌≤◌, ◌<◌, length};

@@ -1,4 +1,6 @@
 // An opening: the fresh record, written over the front of a lent buffer.
+#![tactic(auto)]
+
 ghost use Rattle.std.specs.Prelude.{◌≡◌, ◌+◌, ◌≤◌, ◌<◌, length, replicate};
 ghost use Rattle.spec_base.specs.Layout.{modify_at};
 ghost use Rattle.spec_rack.specs.Rack.{fresh_block, fresh};
