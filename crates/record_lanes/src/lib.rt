@@ -1,4 +1,6 @@
 // What a block's components have, decided over the sixteen places of its lanes: loops of constant length in which every place does the same.
+#![tactic(auto)]
+
 ghost use Rattle.std.specs.Prelude.{◌≡◌, not, ◌&&◌, ℕ, ◌+◌, ◌*◌, ◌-◌, ◌≤◌, ◌<◌, eqb, leb, length, get_or};
 ghost use Rattle.std.specs.Int.Bits.{bit_or};
 ghost use Rattle.spec_base.specs.Folds.{toℕ, all_below};

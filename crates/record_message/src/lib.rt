@@ -1,4 +1,6 @@
 // Whether a message is well-formed and sound, by its bytes.
+#![tactic(auto)]
+
 ghost use Rattle.std.specs.Prelude.{◌≡◌, ◌+◌, ◌≤◌, length};
 ghost use Rattle.spec_rack.specs.RecordLayout.{message_size};
 ghost use Rattle.record_message.specs.Messages.{token_sum_at, endpoints_known, sound_bare_owner, sound_flags, sound_message_at};

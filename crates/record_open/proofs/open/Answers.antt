@@ -15,7 +15,7 @@ use Rattle.record_open.proofs.open.Goals as goal
 
 -- past both tests the opening is accepted
 pass : (n b k l : ℕ) (fits : Bool) → fits ≡ sizes n b k → fits ≡ true → record_length b ≤ l → open_check n b k l ≡ Pass
-pass n b k l fits is yes room = sym (open_pass n b k l (sym is ∙ yes) room)
+pass n b k l fits is h room = sym (open_pass n b k l (sym is ∙ h) room)
 
 pub returns-then-not-in_range : goal.returns-then-not-in_range
 returns-then-not-in_range c = let e = open_refused c.args.boards c.args.blocks c.args.tokens c.args.rec.now _ (sym (open_size _ _ _ _ (sym c.in_range.ensures ∙ c.if-not-in_range.true))) in

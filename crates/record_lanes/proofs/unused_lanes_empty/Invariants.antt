@@ -1,0 +1,18 @@
+-- `record_lanes::unused_lanes_empty` meets its contract: what was gathered over all blocks is looked at once above the last board.
+use Prim.Native.Nat.{ℕ, ◌+◌, ◌*◌, ◌-◌, ◌/◌, ◌^◌, ◌≤◌}
+use native.Mathlib.Omega.{arith}
+use mathlib.Core.Path.{◌≡◌, sym, ap, ◌∙◌, subst}
+use mathlib.Core.Bool.{◌&&◌}
+use lib.Dec.{eqb}
+use Rattle.spec_base.specs.Number.{Bytes}
+use Rattle.spec_rack.specs.RecordLayout.{block_offset}
+use Rattle.record_lanes.proofs.LanePasses.{Seeing, see_none, see_more, rooms_low, rooms_high, rooms_full}
+use borrow.Author.Rules.{rules}
+use Rattle.record_lanes.proofs.unused_lanes_empty.Given as goal
+
+-- after b blocks the two numbers have what was seen in them
+abbrev pub invariant-loop-b : goal.invariant-loop-b
+invariant-loop-b l = (l.b ≤ l.count) × ((bytes : Bytes l.s) → Seeing l.s bytes 0 l.b l.low × Seeing l.s bytes 8 l.b l.high)
+
+abbrev pub decreases-loop-b : goal.decreases-loop-b
+decreases-loop-b l = l.count - l.b
