@@ -1,5 +1,7 @@
 // Whether the record at the front of a buffer is sound: one pass over its messages, then passes over its blocks.
 // order: block_set, lib
+#![tactic(auto)]
+
 pub mod block_set;
 
 ghost use Rattle.std.specs.Prelude.{◌≡◌, true, ◌&&◌, ℕ, ◌+◌, ◌*◌, ◌≤◌, ◌<◌, eqb, length, get_or, replicate};

@@ -1,4 +1,6 @@
 // The refusal table's conditions, evaluated on the record's bytes.
+#![tactic(auto)]
+
 ghost use Rattle.std.specs.Prelude.{◌≡◌, ◌||◌, not, ◌+◌, ◌*◌, ◌<◌, eqb, ltb, get_or};
 ghost use Rattle.spec_wire.specs.declared.Check.TheVariants.{Pass};
 ghost use Rattle.spec_wire.specs.Refusals.{when◌refuse◌else◌};
