@@ -1,5 +1,7 @@
 // The parser of step records. spec_wire's Reader specifies the result for every input.
 // order: body, message_body, lib
+#![tactic(auto)]
+
 pub mod body;
 pub mod message_body;
 
