@@ -1,4 +1,6 @@
 // Load and store: their lines of the refusal table, and what they read and write where they pass.
+#![tactic(auto)]
+
 ghost use Rattle.std.specs.Prelude.{◌≡◌};
 ghost use Rattle.spec_rack.specs.Rules.{check};
 ghost use Rattle.spec_rack.specs.RecordLayout.{get};
