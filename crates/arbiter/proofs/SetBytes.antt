@@ -1,16 +1,13 @@
 -- The claims in the record's bytes: a set is two bytes, at its own place.
 use mathlib.Core.Path.{◌≡◌, refl, sym, ap, ◌∙◌, subst}
 use mathlib.Core.Bool.{true, ◌&&◌}
-use mathlib.Core.List.{List, [], ◌∷◌, ◌++◌}
-use Prim.Native.Nat.{ℕ, zero, suc, ◌+◌, ◌*◌, ◌-◌, ◌/◌, ◌%◌, ◌≤◌, ◌<◌}
-use native.Mathlib.Nat.{le_refl, le_of_suc-le-suc}
-use native.Mathlib.Numerals.{add-one}
+use mathlib.Core.List.{List}
+use Prim.Native.Nat.{ℕ, zero, suc, ◌+◌, ◌*◌, ◌-◌, ◌≤◌, ◌<◌}
+use native.Mathlib.Nat.{le_refl}
 use native.Mathlib.Omega.{arith}
 use lib.Dec.{eqb}
-use lib.ListN.{length, get_or, set, take, drop}
-use lib.Seq.{drop-cons, take-take}
+use lib.ListN.{length, get_or, set}
 use Rattle.spec_base.specs.Folds.{all_below}
-use Rattle.spec_base.specs.Number.{number}
 use Rattle.spec_base.specs.Layout.{slice, big, pair, items, well_formed_items, zeroed}
 use Rattle.spec_base.proofs.Tests.{and_true, and_known}
 use Rattle.spec_base.proofs.Folds.{below_of}

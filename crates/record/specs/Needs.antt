@@ -1,5 +1,5 @@
 -- What the functions on the record's figures ask of their caller; a sound record gives it (document 01, "Sound means").
-use Rattle.std.specs.Prelude.{ℕ, ◌+◌, ◌*◌, ◌≤◌, ◌<◌, ◌≡◌, true, List, length, get_or}
+use Rattle.std.specs.Prelude.{ℕ, ◌≤◌, ◌<◌, ◌≡◌, true, List, length}
 use Rattle.spec_rack.specs.RecordLayout.{record_length, blocks_in, boards_in, messages_in}
 use Rattle.spec_rack.specs.Soundness.{well_formed_record, sound_bytes}
 

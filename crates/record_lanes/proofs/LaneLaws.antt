@@ -15,7 +15,6 @@ use Rattle.spec_base.proofs.Tests.{and_l, and_r, and_of, same_test, lt_or_le, im
 use Rattle.spec_base.proofs.Folds.{below_at, below_of, below_same, every_below}
 use Rattle.spec_base.proofs.Forms.{formed_pair}
 use Rattle.spec_base.proofs.Lanes.{lane_of, lane_each, lane_rest}
-use Rattle.spec_rack.specs.Rack.{present}
 use Rattle.spec_rack.specs.Soundness.{sound_cell}
 use Rattle.spec_rack.specs.RecordLayout.{owner_of, dirty_has_owner, byte_lanes, token_lanes, lanes_size, lane_size, owner_offset, valid_offset, dirty_offset}
 use Rattle.spec_rack.proofs.GetPut.{bytes_length, bytes_spread}

@@ -1,16 +1,8 @@
 -- The passes over the blocks together say that every block is sound.
-use Prim.Native.Nat.{ℕ, zero, suc, ◌+◌, ◌*◌, ◌-◌, ◌/◌, ◌^◌, ◌≤◌, ◌<◌}
-use native.Mathlib.Nat.{div-eq_of_lt, div-lt_iff_lt-mul}
-use native.Mathlib.Omega.{arith}
-use mathlib.Core.Path.{◌≡◌, refl, sym, ap, ◌∙◌}
-use mathlib.Core.Logic.{⊎_elim}
-use mathlib.Core.Bool.{Bool, true, false, not, ◌&&◌, ◌||◌}
+use Prim.Native.Nat.{ℕ}
+use mathlib.Core.Path.{◌≡◌, ap, ◌∙◌}
+use mathlib.Core.Bool.{Bool, true, false, ◌&&◌}
 use mathlib.Core.List.{List}
-use lib.Bits.{bit_or, and_le_l, and_le_r, or_add_and, or_lt}
-use lib.Dec.{eqb, ltb}
-use lib.ListN.{get_or}
-use lib.Pow.{pow_pos, pow-add}
-use borrow.Author.Tests.{eq-eqb, eqb-true, ltb-true, lt-ltb, not-true, not-false}
 use Rattle.spec_base.specs.Folds.{all_below}
 use Rattle.spec_base.proofs.Tests.{and_left, and_right, and_known}
 use Rattle.spec_base.proofs.Folds.{below_and}

@@ -1,5 +1,5 @@
 -- Document 01, "Steps": what a send or a forward whose check passes has, for the taking of tokens and the making of a message.
-use Rattle.std.specs.Prelude.{ℕ, ◌≤◌, ◌<◌, List, get_or}
+use Rattle.std.specs.Prelude.{ℕ, ◌≤◌, ◌<◌, List}
 use Rattle.spec_rack.specs.Rack.{cell_at}
 use Rattle.spec_rack.specs.RecordLayout.{get, messages_in}
 use Rattle.record.specs.Needs.{SoundRecord, CellInRecord}

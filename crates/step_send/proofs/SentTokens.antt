@@ -22,7 +22,7 @@ use Rattle.record.specs.Changes.{TokenStateOf, with_token_state, replace_cell, w
 use Rattle.spec_rack.proofs.LayoutParts.{WordsFit, CellFits, MessageFits}
 use Rattle.spec_rack.proofs.GetPut.{boards_is, blocks_is, mesh_is}
 use Rattle.step_checks.specs.Sendable.{CanSend}
-use Rattle.record.proofs.Sequencing.{mesh_fits_lem, cell_fits}
+use Rattle.record.proofs.Sequencing.{cell_fits}
 use Rattle.record.proofs.MeshBytes.{cell_of_state, fits, mesh_read, mesh_in_cell, mesh_cell}
 
 zeros_fit : WordsFit zeros

@@ -1,13 +1,9 @@
 -- `base::all_zero` meets its contract: after i turns the first i bytes have been tested.
-use Prim.Native.Nat.{ℕ, ◌+◌, ◌-◌, ◌≤◌}
-use native.Mathlib.Omega.{arith}
-use mathlib.Core.Path.{◌≡◌, sym, ap, ◌∙◌}
-use mathlib.Core.Bool.{Bool, ◌&&◌}
+use Prim.Native.Nat.{◌+◌, ◌-◌, ◌≤◌}
+use mathlib.Core.Path.{◌≡◌}
 use lib.ListN.{get_or}
 use lib.Dec.{eqb}
 use Rattle.spec_base.specs.Folds.{all_below}
-use Rattle.spec_base.proofs.Folds.{below_none, below_next}
-use borrow.Author.Rules.{rules}
 use Rattle.base.proofs.all_zero.Given as goal
 
 abbrev pub invariant-loop-i : goal.invariant-loop-i

@@ -1,9 +1,7 @@
 -- `record_lanes::all_lanes_sound` meets its contract: the loop stops at the first block whose lanes are not sound.
-use Prim.Native.Nat.{ℕ, ◌-◌, ◌≤◌, ◌<◌}
+use Prim.Native.Nat.{ℕ}
 use native.Mathlib.Omega.{arith}
 use mathlib.Core.Path.{◌≡◌, sym, ap, ◌∙◌}
-use mathlib.Core.Bool.{true, ◌&&◌}
-use borrow.Author.Tests.{not-true, not-false}
 use Rattle.spec_base.specs.Folds.{all_below}
 use Rattle.spec_base.proofs.Tests.{and_of}
 use Rattle.spec_base.proofs.Folds.{below_none, below_next, below_fails}

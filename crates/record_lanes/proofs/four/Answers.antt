@@ -2,7 +2,6 @@
 use Prim.Native.Nat.{◌+◌, ◌*◌}
 use mathlib.Core.Path.{◌∙◌}
 use Rattle.record_lanes.proofs.LanePasses.{low_four}
-use borrow.Author.Rules.{rules}
 use Rattle.record_lanes.proofs.four.Goals as goal
 
 pub returns : goal.returns

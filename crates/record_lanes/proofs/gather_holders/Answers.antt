@@ -1,6 +1,5 @@
 -- `record_lanes::gather_holders` meets its contract: what was seen at a place stays 0 exactly where no block has a token there.
 use lib.Bits.{bit_or}
-use borrow.Author.Rules.{rules}
 use Rattle.record_lanes.proofs.gather_holders.Goals as goal
 
 pub returns : goal.returns

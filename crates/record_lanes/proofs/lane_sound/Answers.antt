@@ -5,7 +5,6 @@ use lib.Bits.{bit_or}
 use lib.Dec.{eqb, leb}
 use Rattle.spec_base.specs.Folds.{toℕ}
 use Rattle.record_lanes.proofs.LanePasses.{either_some, no_excess}
-use borrow.Author.Rules.{rules}
 use Rattle.record_lanes.proofs.lane_sound.Goals as goal
 
 pub returns : goal.returns

@@ -1,12 +1,8 @@
 -- `record_lanes::lanes_sound` meets its contract: the loop joins the tests of sixteen places.
-use Prim.Native.Nat.{ℕ, ◌-◌, ◌≤◌}
-use native.Mathlib.Omega.{arith}
-use mathlib.Core.Path.{◌≡◌, sym, ap, ◌∙◌}
-use mathlib.Core.Bool.{◌&&◌}
+use Prim.Native.Nat.{◌-◌, ◌≤◌}
+use mathlib.Core.Path.{◌≡◌}
 use Rattle.spec_base.specs.Folds.{all_below}
-use Rattle.spec_base.proofs.Folds.{below_none, below_next}
-use Rattle.record_lanes.specs.Lanes.{sound_lane, sound_lanes}
-use borrow.Author.Rules.{rules}
+use Rattle.record_lanes.specs.Lanes.{sound_lane}
 use Rattle.record_lanes.proofs.lanes_sound.Given as goal
 
 abbrev pub invariant-loop-component : goal.invariant-loop-component

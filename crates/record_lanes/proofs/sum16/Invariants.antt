@@ -1,12 +1,8 @@
 -- `record_lanes::sum16` meets its contract: the loop adds sixteen bytes.
-use Prim.Native.Nat.{ℕ, ◌+◌, ◌*◌, ◌-◌, ◌≤◌}
-use native.Mathlib.Omega.{arith}
-use mathlib.Core.Path.{◌≡◌, sym, ap, ◌∙◌}
+use Prim.Native.Nat.{◌+◌, ◌*◌, ◌-◌, ◌≤◌}
+use mathlib.Core.Path.{◌≡◌}
 use lib.ListN.{get_or}
 use Rattle.spec_base.specs.Folds.{sum_below}
-use Rattle.spec_base.proofs.Folds.{sum_none, sum_next}
-use Rattle.record_lanes.specs.Lanes.{lane_sum}
-use borrow.Author.Rules.{rules}
 use Rattle.record_lanes.proofs.sum16.Given as goal
 
 abbrev pub invariant-loop-i : goal.invariant-loop-i

@@ -1,5 +1,5 @@
 -- `record_lanes::unused_lanes_empty` meets its contract: what was gathered over all blocks is looked at once above the last board.
-use Prim.Native.Nat.{ℕ, ◌+◌, ◌*◌, ◌-◌, ◌/◌, ◌^◌, ◌≤◌}
+use Prim.Native.Nat.{ℕ, ◌+◌, ◌*◌, ◌-◌, ◌/◌, ◌^◌}
 use native.Mathlib.Omega.{arith}
 use mathlib.Core.Path.{◌≡◌, sym, ap, ◌∙◌, subst}
 use mathlib.Core.Bool.{◌&&◌}
@@ -7,7 +7,6 @@ use lib.Dec.{eqb}
 use Rattle.spec_base.specs.Number.{Bytes}
 use Rattle.spec_rack.specs.RecordLayout.{block_offset}
 use Rattle.record_lanes.proofs.LanePasses.{Seeing, see_none, see_more, rooms_low, rooms_high, rooms_full}
-use borrow.Author.Rules.{rules}
 use Rattle.record_lanes.proofs.unused_lanes_empty.Goals as goal
 
 pub returns-then-boards-eq15 : goal.returns-then-boards-eq15

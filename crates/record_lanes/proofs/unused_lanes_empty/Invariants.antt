@@ -1,13 +1,7 @@
 -- `record_lanes::unused_lanes_empty` meets its contract: what was gathered over all blocks is looked at once above the last board.
-use Prim.Native.Nat.{ℕ, ◌+◌, ◌*◌, ◌-◌, ◌/◌, ◌^◌, ◌≤◌}
-use native.Mathlib.Omega.{arith}
-use mathlib.Core.Path.{◌≡◌, sym, ap, ◌∙◌, subst}
-use mathlib.Core.Bool.{◌&&◌}
-use lib.Dec.{eqb}
+use Prim.Native.Nat.{◌-◌, ◌≤◌}
 use Rattle.spec_base.specs.Number.{Bytes}
-use Rattle.spec_rack.specs.RecordLayout.{block_offset}
-use Rattle.record_lanes.proofs.LanePasses.{Seeing, see_none, see_more, rooms_low, rooms_high, rooms_full}
-use borrow.Author.Rules.{rules}
+use Rattle.record_lanes.proofs.LanePasses.{Seeing}
 use Rattle.record_lanes.proofs.unused_lanes_empty.Given as goal
 
 -- after b blocks the two numbers have what was seen in them

@@ -6,7 +6,6 @@ use Rattle.spec_base.specs.Number.{Bytes}
 use Rattle.spec_rack.specs.WordCopy.{WordsCopied}
 use Rattle.record_mesh.proofs.ByteCopies.{copied}
 use Rattle.record_mesh.proofs.WordCopies.{copied_rack, copied_words}
-use borrow.Author.Rules.{rules}
 use Rattle.record_mesh.proofs.copy_words.Goals as goal
 
 pub returns : goal.returns

@@ -10,7 +10,6 @@ use Rattle.record.proofs.FieldOffsets.{message_at_lem}
 use Rattle.spec_base.specs.Layout.{slice}
 use Rattle.spec_rack.specs.declared.Message.{Message}
 use Rattle.spec_rack.specs.RecordLayout.{message_size, owner_of, message}
-use borrow.Author.Rules.{rules}
 use Rattle.record_mesh.proofs.header_at.Goals as goal
 
 pub returns : goal.returns

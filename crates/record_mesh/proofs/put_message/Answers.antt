@@ -7,7 +7,6 @@ use Rattle.spec_base.specs.Layout.{modify_at}
 use Prim.Native.Nat.{ℕ, ◌+◌}
 use mathlib.Core.Path.{ap, ◌∙◌}
 use Rattle.record.proofs.FieldWrites.{message_write, same_three}
-use borrow.Author.Rules.{rules}
 use Rattle.record_mesh.proofs.put_message.Goals as goal
 
 pub bounds-s-at-2 : goal.bounds-s-at-2

@@ -7,7 +7,6 @@ use Rattle.record.proofs.FieldAccess.{well_formed}
 use Rattle.record.proofs.FieldOffsets.{removed_put}
 use Rattle.spec_base.specs.Layout.{slice, modify_at}
 use Rattle.spec_rack.specs.RecordLayout.{message_count_offset, message_size, messages_in}
-use borrow.Author.Rules.{rules}
 use Rattle.record_mesh.proofs.remove.Goals as goal
 
 pub returns : goal.returns

@@ -6,7 +6,6 @@ use mathlib.Core.Path.{◌≡◌, sym, ap, ◌∙◌}
 use lib.Dec.{ltb}
 use lib.ListN.{get_or}
 use Rattle.record_message.proofs.MessageLaws.{ends_sender, ends_target, ends_same, ends_block}
-use borrow.Author.Rules.{rules}
 use Rattle.record_message.proofs.endpoints_known.Goals as goal
 
 pub returns-then-boards-sender : goal.returns-then-boards-sender

@@ -2,13 +2,10 @@
 use Prim.Native.Nat.{◌+◌, ◌*◌}
 use native.Mathlib.Omega.{arith}
 use mathlib.Core.Path.{sym, ◌∙◌}
-use mathlib.Core.Bool.{true, false}
 use lib.Dec.{leb}
-use borrow.Author.Tests.{not-true, not-false}
 use Rattle.spec_rack.specs.RecordLayout.{message_owner_offset}
 use Rattle.record_message.specs.Messages.{sound_bare_owner}
 use Rattle.record_message.proofs.MessageLaws.{flags_bare, flags_none, flags_rest}
-use borrow.Author.Rules.{rules}
 use Rattle.record_message.proofs.sound_flags.Goals as goal
 use Rattle.record_message.proofs.sound_flags.Goals.{then-data-owner+else-not-bare_owner_sound, else-data-owner}
 
@@ -26,8 +23,8 @@ returns c = (λ i. leb ((c.wide-3.ensures.0 ∙ c.byte_at-dirty.ensures) i + (c.
     ∙ flags_rest c.args.rec.now c.args.at (c.shared_slice_known-1.given (c.args.at + message_owner_offset)).fits
     (λ less.
     elim c.if-data-owner.branch [
-      then-data-owner+else-not-bare_owner_sound w ↦
-        (λ i. sound_bare_owner (sym c.byte_at-owner.ensures i) (sym c.byte_at-dirty.ensures i) (sym w.byte_at.ensures i)) ∙ sym w.bare_owner_sound.ensures ∙ w.if-not-bare_owner_sound.false
+      | then-data-owner+else-not-bare_owner_sound w ↦
+          (λ i. sound_bare_owner (sym c.byte_at-owner.ensures i) (sym c.byte_at-dirty.ensures i) (sym w.byte_at.ensures i)) ∙ sym w.bare_owner_sound.ensures ∙ w.if-not-bare_owner_sound.false
       | else-data-owner w ↦ absurd (omega (arith, c.byte_at-owner.ensures, c.byte_at-data.ensures, less, w.if-data-owner.false))
     ])
     (λ e. c.if-wide-eq0.false (omega (arith, c.byte_at-plain.ensures, c.byte_at-owner.ensures, e, c.wide-2.ensures.0, c.wide.ensures.0)))

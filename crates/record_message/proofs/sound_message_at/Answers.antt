@@ -2,10 +2,8 @@
 use Prim.Native.Nat.{◌+◌}
 use native.Mathlib.Omega.{arith}
 use mathlib.Core.Path.{sym, ◌∙◌}
-use borrow.Author.Tests.{not-true, not-false}
 use Rattle.record.proofs.FieldBytes.{words_zero}
 use Rattle.record_message.proofs.MessageLaws.{message_ends, message_carried, message_full, message_other, message_bare}
-use borrow.Author.Rules.{rules}
 use Rattle.record_message.proofs.sound_message_at.Goals as goal
 
 pub returns-then-not-endpoints_known : goal.returns-then-not-endpoints_known

@@ -1,7 +1,6 @@
 -- `record_message::token_sum` meets its contract: the two bytes by their weights.
 use native.Mathlib.Omega.{arith}
 use native.Mathlib.Nat.{add-zero}
-use borrow.Author.Rules.{rules}
 use Rattle.record_message.proofs.token_sum.Goals as goal
 
 pub returns : goal.returns

@@ -4,13 +4,11 @@ use mathlib.Core.Path.{◌≡◌, sym, ◌∙◌}
 use mathlib.Core.Bool.{Bool, true}
 use Prim.Native.Nat.{ℕ, ◌≤◌}
 use Rattle.spec_rack.specs.RecordLayout.{record_length}
-use borrow.Author.Tests.{not-true, not-false}
 use lib.ListN.{length}
 use Rattle.spec_wire.specs.declared.Check.TheVariants.{Pass}
 use Rattle.spec_rack.specs.Soundness.{sizes}
 use Rattle.spec_rack.specs.Opening.{open_check}
 use Rattle.spec_rack.proofs.OpeningLaws.{open_size, open_short, open_pass, sized, open_refused, open_accepted}
-use borrow.Author.Rules.{rules}
 use Rattle.record_open.proofs.open.Goals as goal
 
 -- past both tests the opening is accepted

@@ -7,7 +7,6 @@ use lib.ListN.{set, length-set, replicate}
 use Rattle.spec_base.specs.Layout.{modify_at}
 use Rattle.record_open.proofs.FreshBytes.{three_kept, empty_is, fresh_is}
 use Rattle.spec_rack.specs.RecordLayout.{claims_offset, claims_size, owner_offset, valid_offset, words_offset, words_size}
-use borrow.Author.Rules.{rules}
 use Rattle.record_open.proofs.open_block.Goals as goal
 
 -- The bytes stand first, so that a part cleared too far is refused there.

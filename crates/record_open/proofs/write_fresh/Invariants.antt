@@ -1,10 +1,7 @@
 -- `record_open::write_fresh` meets its contract: at turn b the header and the first b blocks are written.
 use Prim.Native.Nat.{◌≤◌, ◌-◌}
-use native.Mathlib.Omega.{arith}
 use mathlib.Core.Path.{◌≡◌}
-use lib.ListN.{length-set}
-use Rattle.record_open.proofs.FreshBytes.{opening, open_none, open_more, open_kept, open_all}
-use borrow.Author.Rules.{rules}
+use Rattle.record_open.proofs.FreshBytes.{opening}
 use Rattle.record_open.proofs.write_fresh.Given as goal
 
 abbrev pub invariant-loop-b : goal.invariant-loop-b

@@ -1,5 +1,4 @@
 -- `record_open::zero_fill` meets its contract: at turn i the first i of the bytes are 0.
-use Prim.Native.Nat.{◌≤◌, ◌-◌}
 use native.Mathlib.Omega.{arith}
 use mathlib.Core.Path.{◌≡◌, ap, ◌∙◌}
 use Rattle.spec_base.proofs.Zeros.{clearing, clear_none, clear_kept, clear_more, clear_all}

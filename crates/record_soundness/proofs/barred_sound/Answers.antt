@@ -3,11 +3,9 @@ use Prim.Native.Nat.{ℕ}
 use native.Mathlib.Omega.{arith}
 use mathlib.Core.Path.{sym, ◌∙◌, subst}
 use mathlib.Core.Bool.{Bool}
-use borrow.Author.Tests.{not-true, not-false}
 use Rattle.spec_rack.specs.RecordLayout.{block_offset}
 use Rattle.record_soundness.specs.Decision.{sound_claims_at}
 use Rattle.record_soundness.proofs.BlockSets.{SecondPass, second_start, second_turn, second_end, second_fails, remove_less}
-use borrow.Author.Rules.{rules}
 use Rattle.record_soundness.proofs.barred_sound.Goals as goal
 
 pub loop-left-init : goal.loop-left-init

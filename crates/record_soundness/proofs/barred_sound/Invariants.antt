@@ -1,13 +1,7 @@
 -- `record_soundness::barred_sound` meets its contract: the loop takes the blocks out of the set one by one; those that are left have been found sound.
-use Prim.Native.Nat.{ℕ}
-use native.Mathlib.Omega.{arith}
-use mathlib.Core.Path.{sym, ◌∙◌, subst}
-use mathlib.Core.Bool.{Bool}
-use borrow.Author.Tests.{not-true, not-false}
 use Rattle.spec_rack.specs.RecordLayout.{block_offset}
 use Rattle.record_soundness.specs.Decision.{sound_claims_at}
-use Rattle.record_soundness.proofs.BlockSets.{SecondPass, second_start, second_turn, second_end, second_fails, remove_less}
-use borrow.Author.Rules.{rules}
+use Rattle.record_soundness.proofs.BlockSets.{SecondPass}
 use Rattle.record_soundness.proofs.barred_sound.Given as goal
 
 abbrev pub invariant-loop-left : goal.invariant-loop-left

@@ -1,9 +1,7 @@
 -- `record_soundness::blocks_sound` meets its contract: the passes over the blocks together say that each block is sound.
 use mathlib.Core.Path.{sym, ◌∙◌}
 use lib.ListN.{get_or}
-use borrow.Author.Tests.{not-true, not-false}
 use Rattle.record_soundness.proofs.BlockPasses.{passes_sums, passes_marks, passes_rooms}
-use borrow.Author.Rules.{rules}
 use Rattle.record_soundness.proofs.blocks_sound.Goals as goal
 
 pub returns-then-not-sums_sound : goal.returns-then-not-sums_sound

@@ -5,7 +5,6 @@ use lib.Dec.{eqb}
 use Rattle.spec_base.proofs.WordBytes.{read_four, same_low_first}
 use Rattle.spec_rack.specs.RecordLayout.{format_number, format_magic, format_offset}
 use native.Mathlib.Omega.{arith}
-use borrow.Author.Rules.{rules}
 use Rattle.record_soundness.proofs.format_known.Goals as goal
 
 pub returns : goal.returns

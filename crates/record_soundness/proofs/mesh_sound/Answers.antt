@@ -1,10 +1,8 @@
 -- `record_soundness::mesh_sound` meets its contract: after i turns the first i messages are fine and each sum has their weight of its block.
-use Prim.Native.Nat.{ℕ, ◌+◌, ◌*◌, ◌-◌, ◌≤◌, ◌<◌}
+use Prim.Native.Nat.{ℕ, ◌+◌, ◌<◌}
 use native.Mathlib.Omega.{arith}
 use mathlib.Core.Path.{◌≡◌, refl, sym, ap, ◌∙◌}
 use mathlib.Core.List.{List}
-use borrow.Author.Tests.{not-true, not-false}
-use mathlib.Core.Bool.{true}
 use lib.ListN.{length, get_or, length-replicate, get_or-replicate, length-set}
 use Rattle.spec_base.specs.Folds.{all_below}
 use Rattle.spec_base.proofs.Tests.{differs, and_of}

@@ -1,20 +1,12 @@
 -- `record_soundness::mesh_sound` meets its contract: after i turns the first i messages are fine and each sum has their weight of its block.
-use Prim.Native.Nat.{ℕ, ◌+◌, ◌*◌, ◌-◌, ◌≤◌, ◌<◌}
-use native.Mathlib.Omega.{arith}
-use mathlib.Core.Path.{◌≡◌, refl, sym, ap, ◌∙◌}
-use mathlib.Core.List.{List}
-use borrow.Author.Tests.{not-true, not-false}
+use Prim.Native.Nat.{ℕ, ◌-◌, ◌≤◌, ◌<◌}
+use mathlib.Core.Path.{◌≡◌}
 use mathlib.Core.Bool.{true}
-use lib.ListN.{length, get_or, length-replicate, get_or-replicate, length-set}
+use lib.ListN.{length, get_or}
 use Rattle.spec_base.specs.Folds.{all_below}
-use Rattle.spec_base.proofs.Tests.{differs, and_of}
-use Rattle.spec_base.proofs.Folds.{below_none, below_next, below_fails}
 use Rattle.record_message.specs.Messages.{sound_message_at}
 use Rattle.record_soundness.specs.Decision.{sum_in_flight}
-use Rattle.record_message.proofs.MessageLaws.{message_block}
-use Rattle.record_soundness.proofs.SoundnessDecision.{flying_none, flying_most, sums_turn}
 use Rattle.spec_rack.specs.RecordLayout.{message_offset}
-use borrow.Author.Rules.{rules}
 use Rattle.record_soundness.proofs.mesh_sound.Given as goal
 
 abbrev pub invariant-loop-i : goal.invariant-loop-i

@@ -1,7 +1,6 @@
 -- `record_soundness::sizes_in_range` meets its contract: a byte made wider is the same number.
 use mathlib.Core.Path.{◌∙◌}
 use Rattle.spec_rack.specs.Soundness.{sizes}
-use borrow.Author.Rules.{rules}
 use Rattle.record_soundness.proofs.sizes_in_range.Goals as goal
 
 pub returns : goal.returns

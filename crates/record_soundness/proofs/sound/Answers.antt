@@ -1,16 +1,14 @@
 -- `record_soundness::sound` meets its contract: each test that fails makes the record unsound, and past the others the blocks decide.
-use Prim.Native.Nat.{ℕ, ◌+◌, ◌*◌, ◌<◌}
+use Prim.Native.Nat.{ℕ, ◌<◌}
 use native.Mathlib.Omega.{arith}
 use mathlib.Core.Path.{◌≡◌, refl, sym, ap, ◌∙◌}
 use mathlib.Core.Bool.{true}
 use lib.ListN.{get_or}
-use borrow.Author.Tests.{not-true, not-false}
 use Rattle.spec_base.specs.Folds.{all_below}
 use Rattle.record_message.specs.Messages.{sound_message_at}
 use Rattle.record_soundness.specs.Decision.{sum_in_flight, sound_block_at}
 use Rattle.record_soundness.proofs.SoundnessDecision.{header_fine, mesh_fine, few_boards, few_blocks, few_messages, flying_most, unsound_room, unsound_header, unsound_format, unsound_mesh, sound_blocks}
 use Rattle.spec_rack.specs.RecordLayout.{block_offset, blocks_in, boards_in, message_offset, messages_in, tokens_in}
-use borrow.Author.Rules.{rules}
 use Rattle.record_soundness.proofs.sound.Goals as goal
 
 pub returns-then-rec-lt-HEADER_SIZE : goal.returns-then-rec-lt-HEADER_SIZE

@@ -1,11 +1,11 @@
 -- `record_soundness::sums_sound` meets its contract: the loop stops at the first block whose tokens or claims are not sound.
-use Prim.Native.Nat.{ℕ, ◌+◌, ◌-◌, ◌≤◌}
+use Prim.Native.Nat.{ℕ, ◌+◌}
 use native.Mathlib.Omega.{arith}
-use mathlib.Core.Path.{◌≡◌, sym, ap, ◌∙◌, subst}
-use mathlib.Core.Bool.{Bool, false, not, ◌&&◌}
+use mathlib.Core.Path.{◌≡◌, sym, ◌∙◌, subst}
+use mathlib.Core.Bool.{Bool, ◌&&◌}
 use lib.Dec.{eqb}
 use lib.ListN.{get_or}
-use borrow.Author.Tests.{not-true, not-false}
+use borrow.Author.Tests.{not-false}
 use Rattle.spec_base.specs.Folds.{all_below}
 use Rattle.spec_base.proofs.Tests.{and_left, and_right}
 use Rattle.spec_base.proofs.Folds.{below_fails}
@@ -13,7 +13,6 @@ use Rattle.spec_rack.specs.RecordLayout.{block_offset, claims_offset}
 use Rattle.record_soundness.specs.Decision.{tokens_total, sound_claims_at}
 use Rattle.arbiter.proofs.ClaimsDecision.{unbarred, others_wait}
 use Rattle.record_soundness.proofs.BlockSets.{FirstPass, first_start, first_turn, first_end}
-use borrow.Author.Rules.{rules}
 use Rattle.record_soundness.proofs.sums_sound.Goals as goal
 
 pub loop-b-init : goal.loop-b-init

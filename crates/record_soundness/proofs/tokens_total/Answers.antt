@@ -1,8 +1,6 @@
 -- `record_soundness::tokens_total` meets its contract: one sum holds tokens and owners.
 use Prim.Native.Nat.{◌+◌, ◌*◌}
-use mathlib.Core.Path.{ap}
 use lib.Dec.{eqb}
-use borrow.Author.Rules.{rules}
 use Rattle.record_soundness.proofs.tokens_total.Goals as goal
 
 pub returns : goal.returns

@@ -4,7 +4,6 @@ use mathlib.Core.Path.{refl}
 use Rattle.spec_rack.specs.Rules.{answer, after}
 use Rattle.step_checks.proofs.CheckFacts.{store_passed}
 use Rattle.step_checks.proofs.StepOutcome.{passes, made, kept}
-use borrow.Author.Rules.{rules}
 use Rattle.step_access.proofs.store.Goals as goal
 
 -- The reply and the bytes stand before what the write asks for, so that a store at another place is refused there first.

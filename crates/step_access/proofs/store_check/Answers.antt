@@ -3,7 +3,6 @@ use mathlib.Core.Path.{refl, sym, ◌∙◌}
 use Rattle.spec_rack.proofs.GetPut.{tokens_is}
 use Rattle.step_checks.proofs.CheckLaws.{store_off_rack, store_home, store_short, store_pass}
 use Rattle.step_checks.proofs.RackBounds.{on_of, in_cell}
-use borrow.Author.Rules.{rules}
 use Rattle.step_access.proofs.store_check.Goals as goal
 
 pub returns-then-off_rack_word : goal.returns-then-off_rack_word

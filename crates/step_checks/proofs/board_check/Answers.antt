@@ -1,6 +1,5 @@
 -- `step_checks::board_check` meets its contract: its tests are those of the two lines, in order.
 use Rattle.step_checks.proofs.CheckLaws.{board_off_rack, board_home, board_pass}
-use borrow.Author.Rules.{rules}
 use Rattle.step_checks.proofs.board_check.Goals as goal
 
 pub returns-then-off_rack : goal.returns-then-off_rack

@@ -1,6 +1,5 @@
 -- `step_checks::off_rack` meets its contract: the tests on the first two bytes are those on N and B.
 use Rattle.step_checks.proofs.RackBounds.{component_off, block_test}
-use borrow.Author.Rules.{rules}
 use Rattle.step_checks.proofs.off_rack.Goals as goal
 
 pub returns-then-rec-component : goal.returns-then-rec-component

@@ -1,6 +1,5 @@
 -- `step_checks::off_rack_word` meets its contract: the two tests are the two sides of the "or".
 use Rattle.step_checks.proofs.RackBounds.{off_word, word_test}
-use borrow.Author.Rules.{rules}
 use Rattle.step_checks.proofs.off_rack_word.Goals as goal
 
 pub returns-then-off_rack : goal.returns-then-off_rack

@@ -1,10 +1,8 @@
 -- `step_checks::waiting_set` meets its contract: the claims on a block stand at a place of their own.
 use mathlib.Core.Path.{ap, ◌∙◌}
-use lib.ListN.{get_or}
 use Rattle.spec_arbiter.specs.Claims.{waiting}
 use Rattle.step_checks.proofs.ClaimsInRecord.{claims_room_lem, claims_read}
 use Rattle.spec_rack.specs.RecordLayout.{boards_in}
-use borrow.Author.Rules.{rules}
 use Rattle.step_checks.proofs.waiting_set.Goals as goal
 
 -- The set stands before what its reading asks for, so that the claims of another block are refused there first.

@@ -2,7 +2,6 @@
 use mathlib.Core.Path.{◌∙◌}
 use Prim.Native.Nat.{◌+◌}
 use Rattle.spec_base.specs.Folds.{toℕ}
-use borrow.Author.Rules.{rules}
 use Rattle.step_tokens.proofs.held.Goals as goal
 
 pub returns : goal.returns

@@ -5,7 +5,6 @@ use lib.Dec.{eqb}
 use Rattle.spec_rack.specs.Rack.{present}
 use Rattle.spec_rack.specs.RecordLayout.{owner_of, dirty as isDirty}
 use Rattle.step_tokens.proofs.TokenLaws.{joined_flags}
-use borrow.Author.Rules.{rules}
 use Rattle.step_tokens.proofs.joined_owner.Goals as goal
 
 pub returns : goal.returns

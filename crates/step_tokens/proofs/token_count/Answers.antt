@@ -2,7 +2,6 @@
 use mathlib.Core.Path.{ap}
 use native.Mathlib.Omega.{arith}
 use Rattle.spec_base.specs.Folds.{toℕ}
-use borrow.Author.Rules.{rules}
 use Rattle.step_tokens.proofs.token_count.Goals as goal
 
 pub returns-then-owner : goal.returns-then-owner

@@ -1,6 +1,5 @@
 -- `step_tokens::without_tokens` meets its contract, by the law of removed tokens.
 use Rattle.step_tokens.proofs.TokenLaws.{less_is}
-use borrow.Author.Rules.{rules}
 use Rattle.step_tokens.proofs.without_tokens.Goals as goal
 
 pub returns : goal.returns

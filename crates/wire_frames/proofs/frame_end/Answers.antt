@@ -1,6 +1,5 @@
 -- `wire_frames::frame_end` meets its contract: inside the list it is `frame_end_within`, and past it nothing is cut.
 use Rattle.wire_frames.proofs.Framing.{cut_past}
-use borrow.Author.Rules.{rules}
 use Rattle.wire_frames.proofs.frame_end.Goals as goal
 
 pub returns : goal.returns

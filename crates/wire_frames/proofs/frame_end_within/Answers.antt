@@ -1,10 +1,6 @@
 -- `wire_frames::frame_end_within` meets its contract: a record ends where its length says, or with the list.
-use lib.ListN.{get_or}
-use Prim.Native.Nat.{◌+◌, ◌*◌}
-use mathlib.Core.Path.{◌≡◌}
 use native.Mathlib.Omega.{arith}
 use Rattle.wire_frames.proofs.Framing.{length_read, cut_few, cut_short, cut_whole}
-use borrow.Author.Rules.{rules}
 use Rattle.wire_frames.proofs.frame_end_within.Goals as goal
 
 pub returns-then-left-lt3 : goal.returns-then-left-lt3

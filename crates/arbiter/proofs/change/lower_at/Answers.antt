@@ -1,7 +1,7 @@
 -- `arbiter::change::lower_at` meets its contract: after i turns the board has left the first i barring sets; then the waiting set.
 use Rattle.arbiter.proofs.ClaimsChange.{Lowering, lower_none, lower_more, lower_is}
 use mathlib.Core.Path.{◌≡◌, subst}
-use Prim.Native.Nat.{ℕ, ◌-◌, ◌≤◌}
+use Prim.Native.Nat.{ℕ}
 use native.Mathlib.Omega.{arith}
 use borrow.Author.Rules.{rules}
 use Rattle.arbiter.proofs.change.lower_at.Goals as goal

@@ -1,9 +1,6 @@
 -- `arbiter::change::lower_at` meets its contract: after i turns the board has left the first i barring sets; then the waiting set.
-use Rattle.arbiter.proofs.ClaimsChange.{Lowering, lower_none, lower_more, lower_is}
-use mathlib.Core.Path.{◌≡◌, subst}
-use Prim.Native.Nat.{ℕ, ◌-◌, ◌≤◌}
-use native.Mathlib.Omega.{arith}
-use borrow.Author.Rules.{rules}
+use Rattle.arbiter.proofs.ClaimsChange.{Lowering}
+use Prim.Native.Nat.{◌-◌, ◌≤◌}
 use Rattle.arbiter.proofs.change.lower_at.Given as goal
 
 abbrev pub invariant-loop-i : goal.invariant-loop-i

@@ -3,7 +3,6 @@ use Rattle.spec_arbiter.proofs.Claims.{lower_pass, lower_refused}
 use Rattle.spec_arbiter.specs.Boards.{member}
 use mathlib.Core.Path.{sym, ap, ◌∙◌}
 use Prim.Native.Nat.{ℕ}
-use borrow.Author.Rules.{rules}
 use Rattle.arbiter.proofs.claims.lower_check.Goals as goal
 
 pub returns-then-member : goal.returns-then-member

@@ -4,7 +4,6 @@ use Rattle.arbiter.proofs.SetBytes.{barring_is}
 use Rattle.spec_arbiter.specs.Boards.{member}
 use mathlib.Core.Path.{sym, ap, ◌∙◌}
 use Prim.Native.Nat.{ℕ}
-use borrow.Author.Rules.{rules}
 use Rattle.arbiter.proofs.claims.raise_check.Goals as goal
 
 pub returns-then-waits : goal.returns-then-waits

@@ -1,7 +1,6 @@
 -- `arbiter::claims::waiting_at` meets its contract: the waiting set is the first.
 use Rattle.arbiter.proofs.SetBytes.{waiting_is}
 use mathlib.Core.Path.{◌∙◌}
-use borrow.Author.Rules.{rules}
 use Rattle.arbiter.proofs.claims.waiting_at.Goals as goal
 
 pub returns : goal.returns

@@ -4,7 +4,6 @@ use Prim.Native.Nat.{ℕ, ◌-◌}
 use mathlib.Core.Path.{ap, ◌∙◌}
 use Rattle.spec_arbiter.specs.Boards.{subset}
 use Rattle.arbiter.proofs.SetBits.{all_shl, all_lt, all_boards}
-use borrow.Author.Rules.{rules}
 use Rattle.arbiter.proofs.sets.boards_only.Goals as goal
 
 pub overflow_sub-all : goal.overflow_sub-all

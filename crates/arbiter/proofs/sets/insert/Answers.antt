@@ -1,6 +1,5 @@
 -- `arbiter::sets::insert` meets its contract: an `or` with the bit is the insertion.
 use Rattle.arbiter.proofs.SetBits.{shl_insert}
-use borrow.Author.Rules.{rules}
 use Rattle.arbiter.proofs.sets.insert.Goals as goal
 
 pub returns : goal.returns

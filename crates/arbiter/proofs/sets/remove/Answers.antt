@@ -1,7 +1,6 @@
 -- `arbiter::sets::remove` meets its contract: the bit is set and then taken off.
 use native.Mathlib.Omega.{arith}
 use Rattle.arbiter.proofs.SetBits.{shl_one, shl_insert, insert_above, insert_remove}
-use borrow.Author.Rules.{rules}
 use Rattle.arbiter.proofs.sets.remove.Goals as goal
 
 pub overflow_sub-result : goal.overflow_sub-result

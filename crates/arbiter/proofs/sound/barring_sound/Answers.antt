@@ -2,7 +2,6 @@
 use Rattle.arbiter.proofs.ClaimsDecision.{bars_none, bars_waiting, bars_idle}
 use mathlib.Core.Path.{sym, ◌∙◌}
 use borrow.Author.Tests.{ne_eqb}
-use borrow.Author.Rules.{rules}
 use Rattle.arbiter.proofs.sound.barring_sound.Goals as goal
 
 pub returns-then-barring-eq0 : goal.returns-then-barring-eq0

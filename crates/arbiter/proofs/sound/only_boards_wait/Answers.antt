@@ -1,7 +1,6 @@
 -- `arbiter::sound::only_boards_wait` meets its contract: the waiting set is read, and its bits are tested.
 use mathlib.Core.Path.{ap, ◌∙◌}
 use Rattle.spec_arbiter.specs.Boards.{boards_only}
-use borrow.Author.Rules.{rules}
 use Rattle.arbiter.proofs.sound.only_boards_wait.Goals as goal
 
 pub returns : goal.returns

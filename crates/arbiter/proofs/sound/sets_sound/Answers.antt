@@ -4,10 +4,7 @@ use Rattle.arbiter.proofs.ClaimsDecision.{first_sound, first_none, first_more, f
 use Rattle.spec_rack.specs.RecordLayout.{claims_at_offset}
 use Rattle.spec_arbiter.specs.Boards.{boards_only}
 use mathlib.Core.Path.{◌≡◌, refl, sym, ap, ◌∙◌}
-use mathlib.Core.Bool.{true}
-use Prim.Native.Nat.{◌-◌, ◌≤◌}
 use native.Mathlib.Omega.{arith}
-use borrow.Author.Tests.{not-true, not-false}
 use borrow.Author.Rules.{rules}
 use Rattle.arbiter.proofs.sound.sets_sound.Goals as goal
 

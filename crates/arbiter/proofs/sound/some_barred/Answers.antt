@@ -1,7 +1,6 @@
 -- `arbiter::sound::some_barred` meets its contract: a byte of the barring sets is not 0.
 use mathlib.Core.Bool.{not}
 use mathlib.Core.Path.{ap}
-use borrow.Author.Rules.{rules}
 use Rattle.arbiter.proofs.sound.some_barred.Goals as goal
 
 pub returns : goal.returns

@@ -2,7 +2,6 @@
 use mathlib.Core.Path.{sym, ◌∙◌}
 use mathlib.Core.Bool.{◌&&◌}
 use Rattle.arbiter.proofs.SetBytes.{claims_formed}
-use borrow.Author.Rules.{rules}
 use Rattle.arbiter.proofs.sound.unused_sets_zero.Goals as goal
 
 pub returns : goal.returns

@@ -1,12 +1,9 @@
 -- `base::numbers::put_number` meets its contract: what is left of the number, before the bytes that are stored, makes it.
-use mathlib.Core.Path.{◌≡◌, refl, ◌∙◌}
-use Prim.Native.Nat.{◌≤◌, ◌-◌}
-use native.Mathlib.Omega.{arith}
-use mathlib.Core.List.{◌++◌, append-nil}
-use lib.ListN.{length, drop, length-set}
-use lib.Seq.{drop-length}
+use mathlib.Core.Path.{◌≡◌}
+use Prim.Native.Nat.{◌≤◌}
+use mathlib.Core.List.{◌++◌}
+use lib.ListN.{length, drop}
 use Rattle.spec_base.specs.Number.{digits}
-use Rattle.spec_base.proofs.Numbers.{digits_next}
 use Rattle.base.proofs.numbers.put_number.Given as goal
 
 abbrev pub invariant-loop-i : goal.invariant-loop-i

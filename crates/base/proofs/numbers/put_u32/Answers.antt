@@ -2,7 +2,6 @@
 use Rattle.spec_base.proofs.WordBytes.{write_four}
 use lib.ListN.{length-set}
 use native.Mathlib.Omega.{arith}
-use borrow.Author.Rules.{rules}
 use Rattle.base.proofs.numbers.put_u32.Goals as goal
 
 pub bounds-s-at-2 : goal.bounds-s-at-2

@@ -3,7 +3,6 @@ use Rattle.spec_base.proofs.WordBytes.{read_two}
 use mathlib.Core.Path.{sym, ◌∙◌}
 use Prim.Native.Nat.{◌+◌, ◌*◌}
 use native.Mathlib.Omega.{arith}
-use borrow.Author.Rules.{rules}
 use Rattle.base.proofs.numbers.u16_at.Goals as goal
 
 pub overflow_mul-result : goal.overflow_mul-result

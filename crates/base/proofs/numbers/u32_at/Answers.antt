@@ -2,7 +2,6 @@
 use Rattle.spec_base.proofs.WordBytes.{read_four}
 use Prim.Native.Nat.{◌+◌, ◌*◌}
 use mathlib.Core.Path.{sym, ◌∙◌}
-use borrow.Author.Rules.{rules}
 use Rattle.base.proofs.numbers.u32_at.Goals as goal
 
 pub returns : goal.returns

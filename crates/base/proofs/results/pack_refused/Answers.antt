@@ -1,7 +1,6 @@
 -- `base::results::pack_refused` meets its contract: no number of the table reaches into the kind.
 use native.Mathlib.Omega.{arith}
 use Rattle.spec_wire.proofs.RefusalTable.{number_known}
-use borrow.Author.Rules.{rules}
 use Rattle.base.proofs.results.pack_refused.Goals as goal
 
 pub overflow_add-result : goal.overflow_add-result

@@ -1,7 +1,6 @@
 -- `record::cells::set_token_state` meets its contract: one byte in each of four lanes; every other component keeps its bytes.
 use mathlib.Core.Path.{◌∙◌}
 use Rattle.record.proofs.FieldAccess.{set_marks_is}
-use borrow.Author.Rules.{rules}
 use Rattle.record.proofs.cells.set_token_state.Goals as goal
 
 pub returns : goal.returns

@@ -5,7 +5,6 @@ use mathlib.Core.List.{List}
 use lib.ListN.{set}
 use Rattle.spec_rack.specs.RecordLayout.{dirty_offset}
 use Rattle.record.proofs.FieldAccess.{set_word_is}
-use borrow.Author.Rules.{rules}
 use Rattle.record.proofs.cells.set_word.Goals as goal
 
 -- The bytes stand before what the write asks for, so that a word at another place is refused there first.

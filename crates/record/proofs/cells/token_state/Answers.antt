@@ -1,7 +1,6 @@
 -- `record::cells::token_state` meets its contract: one byte of each of four lanes.
 use native.Mathlib.Nat.{add-zero}
 use Rattle.record.proofs.FieldAccess.{marks_is}
-use borrow.Author.Rules.{rules}
 use Rattle.record.proofs.cells.token_state.Goals as goal
 
 pub returns : goal.returns

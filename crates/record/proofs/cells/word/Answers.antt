@@ -1,7 +1,6 @@
 -- `record::cells::word` meets its contract: a word is read where the layout has it.
 use mathlib.Core.Path.{◌∙◌}
 use Rattle.record.proofs.FieldAccess.{word_is}
-use borrow.Author.Rules.{rules}
 use Rattle.record.proofs.cells.word.Goals as goal
 
 pub returns : goal.returns

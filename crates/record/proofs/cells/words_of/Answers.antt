@@ -1,7 +1,6 @@
 -- `record::cells::words_of` meets its contract: the eight words are read where the layout has them.
 use mathlib.Core.Path.{◌∙◌}
 use Rattle.record.proofs.FieldAccess.{words_is}
-use borrow.Author.Rules.{rules}
 use Rattle.record.proofs.cells.words_of.Goals as goal
 
 pub returns : goal.returns

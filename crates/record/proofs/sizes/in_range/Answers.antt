@@ -2,7 +2,6 @@
 use mathlib.Core.Path.{sym, ap, ◌∙◌}
 use mathlib.Core.Bool.{Bool, ◌&&◌, and_assoc}
 use lib.Dec.{leb}
-use borrow.Author.Rules.{rules}
 use Rattle.record.proofs.sizes.in_range.Goals as goal
 
 pub returns : goal.returns

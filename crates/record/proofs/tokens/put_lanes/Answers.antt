@@ -4,7 +4,6 @@ use lib.ListN.{set, length-set}
 use native.Mathlib.Omega.{arith}
 use Rattle.spec_base.specs.Folds.{toℕ}
 use Rattle.spec_rack.specs.RecordLayout.{owner_offset, valid_offset, dirty_offset}
-use borrow.Author.Rules.{rules}
 use Rattle.record.proofs.tokens.put_lanes.Goals as goal
 
 pub bounds-s-at-2 : goal.bounds-s-at-2

@@ -5,7 +5,6 @@ use lib.ListN.{set, length-set}
 use native.Mathlib.Omega.{arith}
 use Rattle.spec_base.specs.Folds.{toℕ}
 use Rattle.record.proofs.FieldWrites.{tokens_write}
-use borrow.Author.Rules.{rules}
 use Rattle.record.proofs.tokens.put_token_state.Goals as goal
 
 pub bounds-s-at-2 : goal.bounds-s-at-2

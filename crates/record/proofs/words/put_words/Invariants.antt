@@ -1,11 +1,8 @@
 -- `record::words::put_words` meets its contract. The invariant: the first i words are written.
-use Rattle.spec_base.proofs.Laws.{cut}
 use Rattle.spec_base.specs.Layout.{modify_at, big, write_items}
-use Rattle.record.proofs.FieldAccess.{lined_more, lined_all}
-use mathlib.Core.Path.{◌≡◌, refl, sym, ap, ◌∙◌}
-use lib.ListN.{length, get_or, take}
-use Prim.Native.Nat.{◌≤◌, ◌-◌, ◌+◌, ◌*◌}
-use borrow.Author.Rules.{rules}
+use mathlib.Core.Path.{◌≡◌}
+use lib.ListN.{length, take}
+use Prim.Native.Nat.{◌≤◌, ◌-◌}
 use Rattle.record.proofs.words.put_words.Given as goal
 
 abbrev pub invariant-loop-i : goal.invariant-loop-i

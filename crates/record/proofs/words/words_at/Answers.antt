@@ -1,10 +1,10 @@
 -- `record::words::words_at` meets its contract. The invariant: the first i words are read.
 use Rattle.spec_base.proofs.Folds.{at_set}
-use lib.ListN.{length-set, length, get_or}
+use lib.ListN.{length-set}
 use Rattle.spec_base.specs.Layout.{big, slice}
 use Rattle.record.proofs.FieldAccess.{words_read}
 use mathlib.Core.Path.{◌≡◌, sym, ap, ◌∙◌}
-use Prim.Native.Nat.{ℕ, ◌≤◌, ◌<◌, ◌-◌, ◌+◌, ◌*◌}
+use Prim.Native.Nat.{ℕ, ◌+◌, ◌*◌}
 use native.Mathlib.Omega.{arith}
 use borrow.Author.Rules.{rules}
 use Rattle.record.proofs.words.words_at.Goals as goal

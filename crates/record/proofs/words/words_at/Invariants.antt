@@ -1,12 +1,8 @@
 -- `record::words::words_at` meets its contract. The invariant: the first i words are read.
-use Rattle.spec_base.proofs.Folds.{at_set}
-use lib.ListN.{length-set, length, get_or}
+use lib.ListN.{length, get_or}
 use Rattle.spec_base.specs.Layout.{big, slice}
-use Rattle.record.proofs.FieldAccess.{words_read}
-use mathlib.Core.Path.{◌≡◌, sym, ap, ◌∙◌}
+use mathlib.Core.Path.{◌≡◌}
 use Prim.Native.Nat.{ℕ, ◌≤◌, ◌<◌, ◌-◌, ◌+◌, ◌*◌}
-use native.Mathlib.Omega.{arith}
-use borrow.Author.Rules.{rules}
 use Rattle.record.proofs.words.words_at.Given as goal
 
 abbrev pub invariant-loop-i : goal.invariant-loop-i

@@ -1,11 +1,8 @@
 -- `record_mesh::bytes::copy_bytes` meets its contract. The invariant: the first i bytes are copied.
-use Rattle.record_mesh.proofs.ByteCopies.{copied, copied_none, copied_more}
-use mathlib.Core.Path.{◌≡◌, refl, ap, ◌∙◌}
-use lib.ListN.{length, get_or, set, length-set}
-use mathlib.Core.List.{List}
-use Prim.Native.Nat.{ℕ, ◌≤◌, ◌-◌, ◌+◌}
-use native.Mathlib.Omega.{arith}
-use borrow.Author.Rules.{rules}
+use Rattle.record_mesh.proofs.ByteCopies.{copied}
+use mathlib.Core.Path.{◌≡◌}
+use lib.ListN.{length}
+use Prim.Native.Nat.{◌≤◌, ◌-◌}
 use Rattle.record_mesh.proofs.bytes.copy_bytes.Given as goal
 
 abbrev pub invariant-loop-i : goal.invariant-loop-i

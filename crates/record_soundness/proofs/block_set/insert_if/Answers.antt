@@ -1,6 +1,5 @@
 -- `record_soundness::block_set::insert_if` meets its contract: a bit of 0 changes nothing, a bit of 1 is the member.
 use Rattle.record_soundness.proofs.BlockSets.{or_insert_if}
-use borrow.Author.Rules.{rules}
 use Rattle.record_soundness.proofs.block_set.insert_if.Goals as goal
 
 pub returns : goal.returns

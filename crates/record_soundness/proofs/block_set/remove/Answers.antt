@@ -2,7 +2,6 @@
 use native.Mathlib.Omega.{arith}
 use Rattle.arbiter.proofs.SetBits.{insert_above, insert_remove}
 use Rattle.record_soundness.proofs.BlockSets.{bit_of, or_bit}
-use borrow.Author.Rules.{rules}
 use Rattle.record_soundness.proofs.block_set.remove.Goals as goal
 
 pub overflow_sub-result : goal.overflow_sub-result

@@ -2,7 +2,6 @@
 use mathlib.Core.Path.{refl}
 use Rattle.spec_rack.specs.Rules.{answer}
 use Rattle.step_checks.proofs.StepOutcome.{passes, made, kept}
-use borrow.Author.Rules.{rules}
 use Rattle.step_send.proofs.forward.forward.Goals as goal
 
 pub forward_tokens-requires : goal.forward_tokens-requires

@@ -9,7 +9,6 @@ use Rattle.spec_rack.specs.Rules.{check}
 use Rattle.step_checks.proofs.CheckLaws.{held_is, forward_off_rack}
 use Rattle.step_checks.proofs.RackBounds.{block_on, in_cell}
 use Rattle.step_send.proofs.SendTable.{line_is}
-use borrow.Author.Rules.{rules}
 use Rattle.step_send.proofs.forward.forward_check.Goals as goal
 
 pub returns-then-off_rack : goal.returns-then-off_rack

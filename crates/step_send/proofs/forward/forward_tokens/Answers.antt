@@ -7,7 +7,6 @@ use Rattle.step_send.proofs.SentTokens.{forwarded_is}
 use Rattle.step_checks.proofs.ClaimsInRecord.{claims_room_lem, claims_read}
 use Rattle.step_checks.proofs.CheckFacts.{forward_passed}
 use Rattle.spec_rack.specs.RecordLayout.{boards_in}
-use borrow.Author.Rules.{rules}
 use Rattle.step_send.proofs.forward.forward_tokens.Goals as goal
 
 pub active_at-target-requires : goal.active_at-target-requires

@@ -1,6 +1,5 @@
 -- `step_send::send::append_message` meets its contract: the owner as it is marked, and the component's words, or none.
 use Rattle.step_send.proofs.SentTokens.{appended_data, appended_bare}
-use borrow.Author.Rules.{rules}
 use Rattle.step_send.proofs.send.append_message.Goals as goal
 
 pub returns-then-data : goal.returns-then-data

@@ -3,7 +3,6 @@ use mathlib.Core.Path.{refl}
 use Rattle.spec_rack.specs.Rules.{answer, after}
 use Rattle.step_checks.proofs.CheckFacts.{send_passed}
 use Rattle.step_checks.proofs.StepOutcome.{passes, made, kept}
-use borrow.Author.Rules.{rules}
 use Rattle.step_send.proofs.send.send.Goals as goal
 
 -- The reply stands before what taking the tokens asks for, so that a wrong verdict is refused there first.

@@ -5,7 +5,6 @@ use Rattle.spec_rack.specs.Rules.{check}
 use Rattle.step_checks.proofs.CheckLaws.{send_off_rack}
 use Rattle.step_checks.proofs.RackBounds.{block_on, in_cell}
 use Rattle.step_send.proofs.SendTable.{line_is, target_is, claimed_is, tokens_are}
-use borrow.Author.Rules.{rules}
 use Rattle.step_send.proofs.send.send_check.Goals as goal
 
 -- The verdict stands before what the calls ask for, and each test is found by search, so that a line that asks more or less is refused at its test. The

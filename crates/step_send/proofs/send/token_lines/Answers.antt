@@ -5,7 +5,6 @@ use Prim.Native.Nat.{ℕ}
 use lib.Dec.{eqb, ltb}
 use Rattle.spec_wire.specs.declared.Refusal.TheVariants.{Empty, NotHeld, BareOwner, NoData, MeshFull}
 use Rattle.step_send.proofs.SendTable.{line_is}
-use borrow.Author.Rules.{rules}
 use Rattle.step_send.proofs.send.token_lines.Goals as goal
 
 pub returns : goal.returns
