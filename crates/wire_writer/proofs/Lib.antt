@@ -1,3 +1,4 @@
 pub mod FieldOrder
+pub mod PlacedFields
 pub mod PlacedRecord
 pub mod FieldArraySum
