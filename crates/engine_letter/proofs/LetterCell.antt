@@ -4,7 +4,7 @@ use native.Mathlib.Omega.{arith}
 use mathlib.Core.Path.{◌≡◌}
 use mathlib.Core.Bool.{true}
 use mathlib.Core.List.{List}
-use lib.ListN.{length, get_or}
+use lib.ListN.{length}
 use Rattle.spec_base.specs.Number.{Bytes}
 use Rattle.spec_rack.specs.RecordLayout.{record_length, get, blocks_in, boards_in, tokens_in}
 use Rattle.spec_rack.specs.Soundness.{sound_bytes}

@@ -1,4 +1,6 @@
 // The state letter of a board and a block.
+#![tactic(auto)]
+
 ghost use Rattle.std.specs.Prelude.{◌≡◌, ◌+◌, ◌≤◌, ◌<◌, length, get_or};
 ghost use Rattle.spec_rack.specs.Letter.{letter_of, letter_reply};
 ghost use Rattle.spec_rack.specs.RecordLayout.{owner_offset, dirty_offset, cell_at_offset, tokens_in};
