@@ -1,4 +1,6 @@
 // Deliver: tokens from the mesh into a cell. Its line of the refusal table, and the change where it passes.
+#![tactic(auto)]
+
 ghost use Rattle.std.specs.Prelude.{◌≡◌};
 ghost use Rattle.spec_wire.specs.declared.Check.TheVariants.{Pass};
 ghost use Rattle.spec_rack.specs.Rack.{cell_at, message_at};
