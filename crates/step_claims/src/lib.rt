@@ -1,4 +1,6 @@
 // Raise and lower: their lines of the refusal table, and what they make of the claims on a block where they pass.
+#![tactic(auto)]
+
 ghost use Rattle.std.specs.Prelude.{◌≡◌};
 ghost use Rattle.spec_rack.specs.Rules.{check};
 ghost use Rattle.spec_rack.specs.RecordLayout.{get};
