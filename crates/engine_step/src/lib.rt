@@ -1,5 +1,7 @@
 // The bytes of a step, given to the record in a lent buffer: torn, then unsound, then the rules.
 // order: apply, lib
+#![tactic(auto)]
+
 pub mod apply;
 
 ghost use Rattle.std.specs.Prelude.{◌≡◌};
