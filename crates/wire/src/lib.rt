@@ -1,5 +1,7 @@
 // Round trips of step records on running code; `exports` has the reader and the writer for C.
 // order: exports, lib
+#![tactic(auto)]
+
 ghost use Rattle.std.specs.Prelude.{◌≡◌};
 ghost use Rattle.spec_wire.specs.declared.Reading.{Reading};
 ghost use Rattle.spec_wire.specs.RoundTrip.{rewritten, replaced};

@@ -17,9 +17,7 @@ use Rattle.spec_base.specs.Placing.{place}
 use Rattle.spec_wire.specs.FieldArray.{read_result, read_after}
 use Rattle.spec_wire.proofs.KindTable.{places_length}
 use Rattle.wire_writer.proofs.PlacedRecord.{placed_room, placed_short}
-use borrow.Author.Rules.{rules}
-use Rattle.wire.proofs.exports.hyl_wire_read.Statement.{statement}
-use Rattle.wire.proofs.exports.hyl_wire_read.Tie as tie
+use Rattle.wire.proofs.exports.hyl_wire_read.Goals as goal
 
 -- a reading, by what was parsed of it
 stood : (t : Bool) (s : Step) (a : Reading) → cond t (Read s) (Refused Torn) ≡ a → t ≡ true → Read s ≡ a
@@ -47,53 +45,21 @@ module _ (a : Reading) where
         let room : 0 + length (field_array s) ≤ length out = omega (arith, places_length s) in
         rw (← e, le-leb (0 + length (field_array s)) (length out) room) (p, q ∙ placed_room (field_array s) 0 out room)
 
-parse-requires : tie.Need-parse-requires
-parse-requires c κs = search rules
+pub returns-then-not-parsed : goal.returns-then-not-parsed
+returns-then-not-parsed c =
+    let p = c.parse-parsed in
+    let both = torn _ Torn c.args.out.now (fallen p.result.ok p.result.step _ p.ensures (not-true p.result.ok c.if-not-parsed.true)) c.pack_refused.ensures in
+    record { answer = both.0; buffer = both.1 }
 
-pack-refused-requires : tie.Need-pack-refused-requires
-pack-refused-requires c κs = search rules
-
-returns : tie.Need-returns
-returns c =
-    let way = c.before in
-    let p = way.before.before.parse in
-    torn _ Torn _ (fallen p.result.ok p.result.step _ p.ensures (not-true p.result.ok way.if1.true)) c.pack-refused.ensures
-
-pack-refused-requires-2 : tie.Need-pack-refused-requires-2
-pack-refused-requires-2 c κs = search rules
-
-returns-2 : tie.Need-returns-2
-returns-2 c =
-    let way = c.before.before in
-    let p = way.before.before.parse in
-    short _ p.result.step _ (stood p.result.ok p.result.step _ p.ensures (not-false p.result.ok way.if1.false)) (omega arith) c.pack-refused2.ensures
+pub returns-then-out-lt12 : goal.returns-then-out-lt12
+returns-then-out-lt12 c =
+    let p = c.parse-parsed in
+    let both = short _ p.result.step c.args.out.now (stood p.result.ok p.result.step _ p.ensures (not-false p.result.ok c.if-not-parsed.false)) (omega arith) c.pack_refused-then-out-lt12.ensures in
+    record { answer = both.0; buffer = both.1 }
 
 -- The answer stands before what its call needs: too few places that are not refused are refused here.
-returns-3 : tie.Need-returns-3
-returns-3 c =
-    let way = c.before.before.before.before.before.before in
-    let p = way.before.before.parse in
-    full _ p.result.step _ (stood p.result.ok p.result.step _ p.ensures (not-false p.result.ok way.if1.false)) (omega arith) c.pack-done.ensures c.before.before.before.put-field-array.ensures
-
-put-field-array-requires : tie.Need-put-field-array-requires
-put-field-array-requires c κs = search rules
-
-pack-done-requires : tie.Need-pack-done-requires
-pack-done-requires c κs = search rules
-
-same_length : tie.Need-same-length
-same_length c = search rules
-
-pub hyl_wire_read_spec : {M : Type 1} → statement M
-hyl_wire_read_spec =
-    tie.close
-    (tie.spec
-    parse-requires
-    pack-refused-requires
-    returns
-    pack-refused-requires-2
-    returns-2
-    put-field-array-requires
-    pack-done-requires
-    same_length
-    returns-3)
+pub returns : goal.returns
+returns c =
+    let p = c.parse-parsed in
+    let both = full _ p.result.step c.args.out.now (stood p.result.ok p.result.step _ p.ensures (not-false p.result.ok c.if-not-parsed.false)) (omega arith) c.pack_done.ensures c.put_field_array.ensures in
+    record { answer = both.0; buffer = both.1 }

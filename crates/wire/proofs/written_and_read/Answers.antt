@@ -18,9 +18,7 @@ use Rattle.wire_writer.proofs.PlacedRecord.{written_room, written_short, placed_
 use Rattle.spec_wire.proofs.MachineSteps.{step_fits}
 use Rattle.spec_wire.proofs.RecordSizes.{record_length_lem}
 use Rattle.spec_wire.proofs.RoundTrip.{read_written}
-use borrow.Author.Rules.{rules}
-use Rattle.wire.proofs.written_and_read.Statement.{statement}
-use Rattle.wire.proofs.written_and_read.Tie as tie
+use Rattle.wire.proofs.written_and_read.Goals as goal
 
 module _ (s : Step) (out : List ℕ) where
   -- a buffer of 27 places has room for every record
@@ -49,52 +47,19 @@ module _ (s : Step) (out : List ℕ) where
     unfolding place
     taken = rw there (take_at (step_bytes s) (drop (0 + length (step_bytes s)) out) n (sym count))
 
-slice-aggregate-write : tie.Need-slice-aggregate-write
-slice-aggregate-write c = search rules
+pub slice_bounds-out-end : goal.slice_bounds-out-end
+slice_bounds-out-end c =
+    within c.args.step _ _ _ c.in-Count.ensures.answer c.in-Count.ensures.buffer
 
-write-requires : tie.Need-write-requires
-write-requires c κs = search rules
+pub slice_bounds-read-end : goal.slice_bounds-read-end
+slice_bounds-read-end c =
+    sym (length-take-le _ _ (within c.args.step _ _ _ c.in-Count.ensures.answer c.in-Count.ensures.buffer))
 
-enum-known-n : tie.Need-enum-known-n
-enum-known-n c = search rules
+pub returns-in-Count : goal.returns-in-Count
+returns-in-Count c =
+    let back = taken c.args.step _ _ _ c.in-Count.ensures.answer c.in-Count.ensures.buffer in
+    c.read.ensures ∙ ap read_record back ∙ read_written c.args.step (step_fits c.args.step _ c.well_formed.0)
 
-array-share-prefix-out : tie.Need-array-share-prefix-out
-array-share-prefix-out c =
-    let wrote = c.before.before.before.before.write.ensures in
-    within c.before.before.before.before.before.before.args.step _ _ _ (sym c.before.n.given.1 ∙ wrote.0) wrote.1
-
-slice-aggregate-read : tie.Need-slice-aggregate-read
-slice-aggregate-read c =
-    let wrote = c.before.before.before.before.before.write.ensures in
-    sym (length-take-le _ _ (within c.before.before.before.before.before.before.before.args.step _ _ _ (sym c.before.before.n.given.1 ∙ wrote.0) wrote.1))
-
-read-requires : tie.Need-read-requires
-read-requires c κs = search rules
-
-enum-known-refusal : tie.Need-enum-known-refusal
-enum-known-refusal c = search rules
-
-returns : tie.Need-returns
-returns c =
-    let wrote = c.before.before.before.before.before.before.write.ensures in
-    let start = c.before.before.before.before.before.before.before.before in
-    let back = taken start.args.step _ _ _ (sym c.before.before.before.n.given.1 ∙ wrote.0) wrote.1 in
-    c.read.ensures ∙ ap read_record back ∙ read_written start.args.step (step_fits start.args.step _ start.well-formed.0)
-
-returns-2 : tie.Need-returns-2
-returns-2 c =
-    absurd (never_short c.before.before.before.before.before.before.args.step _ refl (sym c.before.refusal.given.1 ∙ c.before.before.before.before.write.ensures.0))
-
-pub written_and_read_spec : {M : Type 1} → statement M
-written_and_read_spec =
-    tie.close
-    (tie.spec
-    slice-aggregate-write
-    write-requires
-    enum-known-n
-    array-share-prefix-out
-    slice-aggregate-read
-    read-requires
-    enum-known-refusal
-    returns
-    returns-2)
+pub returns-in-Refused : goal.returns-in-Refused
+returns-in-Refused c =
+    absurd (never_short c.args.step _ refl c.in-Refused.ensures.answer)
