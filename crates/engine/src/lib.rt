@@ -1,5 +1,7 @@
 // The engine for C and Rust: a slice is a pointer and a length, a result is one number (`engine_results`).
 // order: step, run, lib
+#![tactic(auto)]
+
 pub mod run;
 pub mod step;
 
