@@ -1,7 +1,6 @@
 -- `engine::hyl_letter` meets its contract: the letter or the refusal, packed.
 use Rattle.spec_rack.specs.Results.{packed_letter}
 use mathlib.Core.Path.{ap, ◌∙◌}
-use borrow.Author.Rules.{rules}
 use Rattle.engine.proofs.hyl_letter.Goals as goal
 
 pub returns : goal.returns

@@ -1,7 +1,6 @@
 -- `engine::hyl_open` meets its contract: the opening, its reply packed.
 use Rattle.spec_rack.specs.Results.{packed_reply}
 use mathlib.Core.Path.{ap, ◌∙◌}
-use borrow.Author.Rules.{rules}
 use Rattle.engine.proofs.hyl_open.Goals as goal
 
 pub returns : goal.returns

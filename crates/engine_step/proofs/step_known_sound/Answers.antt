@@ -5,7 +5,6 @@ use borrow.Author.Tests.{not-true, not-false}
 use Rattle.spec_wire.specs.declared.Refusal.TheVariants.{Torn}
 use Rattle.spec_wire.specs.declared.Reading.TheVariants.{Step as Read, Refused}
 use Rattle.engine_step.proofs.StepOnBytes.{stepped}
-use borrow.Author.Rules.{rules}
 use Rattle.engine_step.proofs.step_known_sound.Goals as goal
 
 pub returns-then-not-parsed : goal.returns-then-not-parsed

@@ -1,12 +1,9 @@
 -- `engine::run::run` meets its contract. The invariant: what is left of the list, given to what there is by now, makes what the whole makes; and soundness is as it was.
-use mathlib.Core.Path.{refl, ◌≡◌, sym, ap, ◌∙◌}
-use native.Mathlib.Omega.{arith}
+use mathlib.Core.Path.{◌≡◌}
 use lib.ListN.{length, get_or}
 use Prim.Native.Nat.{ℕ, ◌-◌, ◌<◌}
 use Rattle.spec_rack.specs.Soundness.{sound_bytes}
-use Rattle.spec_rack.proofs.ByteLists.{sound_kept}
-use Rattle.engine.proofs.RunLaws.{Going, going_start, going_more, going_end, ended, goes}
-use borrow.Author.Rules.{rules}
+use Rattle.engine.proofs.RunLaws.{Going}
 use Rattle.engine.proofs.run.run.Given as goal
 
 abbrev pub invariant-loop-end : goal.invariant-loop-end

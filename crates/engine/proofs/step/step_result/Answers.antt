@@ -1,7 +1,6 @@
 -- `engine::step::step_result` meets its contract: the step, its reply packed.
 use mathlib.Core.Path.{ap, ◌∙◌}
 use Rattle.spec_rack.specs.Results.{packed_reply}
-use borrow.Author.Rules.{rules}
 use Rattle.engine.proofs.step.step_result.Goals as goal
 
 pub returns : goal.returns

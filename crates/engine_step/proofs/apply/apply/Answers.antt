@@ -1,7 +1,6 @@
 -- `engine_step::apply::apply` meets its contract: an unsound record is refused in every arm, on a sound one each kind goes by its function.
 use Rattle.step_checks.proofs.StepOutcome.{load_leaves}
 use Rattle.engine_step.proofs.StepOnBytes.{not_sound, ready, made}
-use borrow.Author.Rules.{rules}
 use Rattle.engine_step.proofs.apply.apply.Goals as goal
 
 -- The replies stand before what the calls need: a step that is made on an unsound record, or another step than the one parsed, is refused here.
