@@ -1,14 +1,18 @@
 -- What sizes in range are: the test's parts as facts.
 use Prim.Native.Nat.{ℕ, ◌≤◌}
 use native.Mathlib.Omega.{arith}
-use mathlib.Core.Path.{◌≡◌}
-use mathlib.Core.Logic.{⊎_elim}
-use mathlib.Core.Bool.{true, ◌||◌}
+use mathlib.Core.Path.{◌≡◌, refl}
+use mathlib.Core.Logic.{◌⊎◌, inl, inr, ⊎_elim}
+use mathlib.Core.Bool.{Bool, true, false, ◌||◌}
 use borrow.Author.Tests.{leb-true, eqb-true}
 use lib.Dec.{eqb}
-use Rattle.spec_base.proofs.Tests.{and_l, and_r, or_cases}
+use Rattle.spec_base.proofs.Tests.{and_l, and_r}
 use Rattle.spec_sizes.specs.declared.Sizes.{Sizes}
 use Rattle.spec_sizes.specs.Sizes.{limits, in_range}
+
+or_cases : (a b : Bool) → (a || b) ≡ true → (a ≡ true) ⊎ (b ≡ true)
+or_cases true b h = inl refl
+or_cases false b h = inr h
 
 -- either limit leaves the record's room for 64 messages enough
 limit_low : (l : ℕ) → limits l ≡ true → l ≤ 64
