@@ -8,8 +8,19 @@ use std::fs;
 use std::path::{Path, PathBuf};
 
 /// The crates all of whose public functions in `lib.rt` are entries; of the others, and of their modules, those that docs/ENTRIES.md names.
-const ENTRY_CRATES: [&str; 9] =
-    ["wire_reader", "wire_writer", "wire", "record_open", "record_soundness", "engine_letter", "engine_results", "engine", "rackrun_text"];
+const ENTRY_CRATES: [&str; 11] = [
+    "wire_reader",
+    "wire_writer",
+    "wire",
+    "wire_c",
+    "record_open",
+    "record_soundness",
+    "engine_letter",
+    "engine_results",
+    "engine",
+    "engine_c",
+    "rackrun_text",
+];
 
 /// Numbers of the record's layout that have no other meaning: they stand in the definitions alone.
 const LAYOUT_NUMBERS: [&str; 3] = ["2592", "632", "22816"];
@@ -96,7 +107,44 @@ fn files(directory: impl AsRef<Path>) -> Vec<PathBuf> {
 
 fn sources(directory: &Path) -> BTreeMap<PathBuf, String> {
     let of_rattle = files(directory).into_iter().filter(|path| path.extension().is_some_and(|e| e == "rt"));
-    of_rattle.map(|path| (path.clone(), text(&path))).collect()
+    of_rattle.map(|path| (path.clone(), with_single_uses(&text(&path)))).collect()
+}
+
+/// A source file with each `use` of several names as so many lines of one name.
+fn with_single_uses(text: &str) -> String {
+    let (mut out, mut item) = (String::new(), String::new());
+    for line in text.lines() {
+        if item.is_empty() && !line.starts_with("use ") {
+            out.push_str(line);
+            out.push('\n');
+            continue;
+        }
+        item.push_str(line.trim_start());
+        if let Some(path) = item.strip_prefix("use ").and_then(|rest| rest.strip_suffix(';')) {
+            out.extend(used(path).iter().map(|path| format!("use {path};\n")));
+            item.clear();
+        }
+    }
+    out + &item
+}
+
+/// The paths of a `use`: `a::{b, c::{self, d}}` has `a::b`, `a::c` and `a::c::d`.
+fn used(path: &str) -> Vec<String> {
+    let Some((before, list)) = path.split_once('{').and_then(|(before, rest)| Some((before, rest.strip_suffix('}')?))) else {
+        return vec![path.to_string()];
+    };
+    let (mut parts, mut depth) = (vec![String::new()], 0);
+    for c in list.chars() {
+        depth += i32::from(c == '{') - i32::from(c == '}');
+        if c == ',' && depth == 0 {
+            parts.push(String::new());
+        } else {
+            parts.last_mut().expect("one part at least").push(c);
+        }
+    }
+    let parts = parts.iter().map(|part| part.trim()).filter(|part| !part.is_empty());
+    let inner = parts.flat_map(|part| if part == "self" { vec![String::new()] } else { used(part) });
+    inner.map(|name| if name.is_empty() { before.trim_end_matches("::").to_string() } else { format!("{before}{name}") }).collect()
 }
 
 /// The files with an ending below a folder, at any depth.
@@ -110,6 +158,12 @@ fn below(directory: &Path, ending: &str) -> Vec<PathBuf> {
         }
     }
     found
+}
+
+/// The files with an ending that are written in a crate; what `rt` makes in its `out` is left out.
+fn written(ending: &str) -> Vec<PathBuf> {
+    let parts = files("crates").into_iter().flat_map(|path| ["src", "specs", "proofs"].map(|part| path.join(part)));
+    parts.flat_map(|part| below(&part, ending)).collect()
 }
 
 /// The must-fail edits of a crate.
@@ -181,7 +235,7 @@ fn edits(crates: &Crates, bad: &mut Vec<String>) -> String {
             }
             let mut edited: BTreeMap<String, String> = BTreeMap::new();
             let (mut file, mut old, mut pairs) = (String::new(), "", 0);
-            let mut unknown = BTreeSet::new();
+            let mut named = BTreeSet::new();
             for line in edit.lines() {
                 if let Some(rest) = line.strip_prefix("file: ") {
                     file = rest.into();
@@ -195,8 +249,7 @@ fn edits(crates: &Crates, bad: &mut Vec<String>) -> String {
                         say(format!("its old text stands {found} times in {file} and must stand once and be changed: {old}"));
                     }
                     if file.ends_with(".rt") {
-                        let known = |word: &str| body.contains(&format!("::{word};")) || body.contains(&format!("const {word}:"));
-                        unknown.extend(constants(new).filter(|word| !known(word)).map(String::from));
+                        named.extend(constants(new).map(|word| (file.clone(), word.to_string())));
                     }
                     *body = body.replacen(old, new, 1);
                     pairs += 1;
@@ -205,6 +258,11 @@ fn edits(crates: &Crates, bad: &mut Vec<String>) -> String {
             if pairs == 0 {
                 say("it has no old and new text".into());
             }
+            let known = |file: &str, word: &str| {
+                let body = with_single_uses(&edited[file]);
+                body.contains(&format!("::{word};")) || body.contains(&format!("const {word}:"))
+            };
+            let unknown: BTreeSet<&String> = named.iter().filter(|(file, word)| !known(file, word)).map(|(_, word)| word).collect();
             if !unknown.is_empty() {
                 say(format!("its new text has constants that its file does not import, so it would not reach the prover: {unknown:?}"));
             }
@@ -262,7 +320,7 @@ fn modules(crates: &Crates, bad: &mut Vec<String>) -> String {
 /// A file of specifications opens with the part of the paper that it states, a file of proofs with its argument.
 fn heads(bad: &mut Vec<String>) -> String {
     let mut count = 0;
-    for path in below(Path::new("crates"), "antt") {
+    for path in written("antt") {
         if name_of(&path) == "Lib.antt" {
             continue;
         }
@@ -276,7 +334,7 @@ fn heads(bad: &mut Vec<String>) -> String {
 
 /// No number of the layout stands in code, specifications or proofs but where it is defined.
 fn layout_numbers(bad: &mut Vec<String>) -> String {
-    let paths = ["rt", "antt"].into_iter().flat_map(|ending| below(Path::new("crates"), ending));
+    let paths = ["rt", "antt"].into_iter().flat_map(written);
     for path in paths.filter(|path| !LAYOUT_FILES.iter().any(|file| path == Path::new(file))) {
         for (number, line) in text(&path).lines().enumerate() {
             let words: Vec<&str> = line.split(|c: char| !(c.is_alphanumeric() || c == '_')).collect();
@@ -290,7 +348,7 @@ fn layout_numbers(bad: &mut Vec<String>) -> String {
 
 /// Where the number of the record's layout stands, each with the text before it: the specification, the code, both headers, the Rust package.
 const FORMATS: [(&str, &str); 5] = [
-    ("crates/spec_rack/specs/RecordLayout.antt", "\nformatNumber = "),
+    ("crates/spec_rack/specs/RecordLayout.antt", "\nformat_number = "),
     ("crates/spec_rack/src/lib.rt", "\npub const FORMAT_NUMBER: u32 = "),
     ("include/hyaloneth.h", "\n#define HYL_RECORD_FORMAT "),
     ("include/hyaloneth_view.h", "\n#define HYL_VIEW_FORMAT "),
@@ -459,9 +517,9 @@ fn array_holders(crates: &Crates) -> BTreeSet<String> {
     items.iter().filter(|item| array(item).is_some()).flat_map(|item| item.windows(2).filter_map(named)).collect()
 }
 
-/// A source file without comments and without the lines of the proofs.
+/// A source file without comments, without the lines of the proofs and without attributes.
 fn code(text: &str) -> String {
-    let lines = text.lines().filter(|line| !line.starts_with("ghost "));
+    let lines = text.lines().filter(|line| !line.starts_with("ghost ") && !line.trim_start().starts_with("#"));
     lines.map(|line| line.split("//").next().expect("a first part").trim_end()).collect::<Vec<_>>().join("\n")
 }
 
