@@ -1,7 +1,7 @@
 // Reads the input, runs it, and prints one line for each step.
 #![tactic(auto)]
 
-ghost use Rattle.std.specs.Prelude.{◌≡◌, ◌≤◌, ◌<◌, IfOk, IfSome, length, take};
+ghost use Rattle.std.specs.Prelude.{◌≡◌, ◌≤◌, ◌<◌, OnOk, IfSome, length, take};
 ghost use Rattle.std.specs.Io.KnownBytes.{Consumes, IsAtEnd};
 ghost use Rattle.spec_rackrun.specs.RuledText.{ruled_text};
 
@@ -9,32 +9,34 @@ use spec_rack::LONGEST_RECORD;
 use std::io;
 use std::io::Read;
 
-// Reads until the buffer is full or the input ends, and gives how many bytes it put at the front of the buffer.
-fn read_full<R: Read>(input: &mut R, buffer: &mut [u8]) -> io::Result<usize>
-    ensures fits { IfOk result (λ n. n ≤ length buffer.new) }
-    ensures bytes { IfOk result (λ n. Consumes (R.remaining input.old) (R.remaining input.new) (take n buffer.new)) }
-    ensures whole { IfOk result (λ n. n < length buffer.old → IsAtEnd (R.remaining input.new)) }
+// Reads until the buffer is full, the input ends or a read fails. Gives how many bytes are at the front of the buffer, and whether a read failed.
+fn read_full<R: Read>(input: &mut R, buffer: &mut [u8]) -> (usize, io::Result<()>)
+    ensures fits { result.0 ≤ length buffer.new }
+    ensures bytes { Consumes (R.remaining input.old) (R.remaining input.new) (take result.0 buffer.new) }
+    ensures whole { OnOk result.1 (result.0 < length buffer.old → IsAtEnd (R.remaining input.new)) }
 {
     let mut done = 0;
     while done < buffer.len() {
-        let n = input.read(&mut buffer[done..])?;
-        if n == 0 {
-            break;
+        match input.read(&mut buffer[done..]) {
+            Ok(0) => break,
+            Ok(n) => done += n,
+            Err(error) => return (done, Err(error)),
         }
-        done += n;
     }
-    Ok(done)
+    (done, Ok(()))
 }
 
-// Reads an input and runs it. Its text, which the rules alone decide, is then at the front of `out`, and its length is given.
-fn run<R: Read>(input: &mut R, out: &mut [u8; 349536]) -> io::Result<usize>
-    ensures fits { IfOk result (λ n. n ≤ length out.new) }
-    ensures text { IfOk result (λ n. IfSome (R.remaining input.old) (λ bytes. take n out.new ≡ ruled_text bytes)) }
+// Reads an input, runs it, places its text at the front of `out` and gives the text's length, and whether a read failed. Where none did, the text is that
+// of all that the reader had, which the rules alone decide.
+fn run<R: Read>(input: &mut R, out: &mut [u8; 349536]) -> (usize, io::Result<()>)
+    ensures fits { result.0 ≤ length out.new }
+    ensures text { OnOk result.1 (IfSome (R.remaining input.old) (λ bytes. take result.0 out.new ≡ ruled_text bytes)) }
 {
     let mut bytes = [0u8; 65536];
     let mut rec = [0u8; LONGEST_RECORD];
-    let count = read_full(input, &mut bytes)?;
-    Ok(rackrun_text::report(&bytes[..count], &mut rec, out))
+    let (count, read) = read_full(input, &mut bytes);
+    let length = rackrun_text::report(&bytes[..count], &mut rec, out);
+    (length, read)
 }
 
 // Prints the text. Where standard output does not take all of it, standard error says so.
@@ -47,6 +49,7 @@ fn print(rt: &(impl Print + Eprint), text: &[u8]) -> io::Result<()> {
 
 fn main(rt: HostRuntime) -> io::Result<()> {
     let mut out = [0u8; 349536];
-    let length = run(&mut rt.stdin(), &mut out)?;
-    print(&rt, &out[..length])
+    let (length, read) = run(&mut rt.stdin(), &mut out);
+    print(&rt, &out[..length])?;
+    read
 }

@@ -21,5 +21,5 @@ loop-done-preserved g c =
     let fits = c.loop-done.invariant.fits in
     record {
       fits = search rules;
-      bytes = subst (Consumes _ _) (sym (take_put _ _ _ _ _ fits c.in_ok-n.ensures.bound.0)) (Consumes-trans _ _ _ _ _ c.loop-done.invariant.bytes c.in_ok-n.ensures.bytes.0);
+      bytes = subst (Consumes _ _) (sym (take_put _ _ _ _ _ fits c.in-Ok.ensures.bound.0)) (Consumes-trans _ _ _ _ _ c.loop-done.invariant.bytes c.in-Ok.ensures.bytes.0);
     }
