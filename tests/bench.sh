@@ -2,8 +2,8 @@
 # The benchmark: the proved engine beside two engines in Rust and the model, as a table in Markdown.
 #   tests/bench.sh                   steps per second
 #   tests/bench.sh --instructions    instructions a step, counted by valgrind's callgrind
-# The archives come from `rt staticlib engine` and `rt staticlib wire`. With HYL_OTHER_ENGINE=FILE another archive of the engine, such as the one
-# before a change, is measured in the same rounds.
+# The archives come from hosts/archives.sh. With HYL_OTHER_ENGINE=FILE another archive of the engine, such as the one before a change, is measured in
+# the same rounds.
 set -euo pipefail
 other=${HYL_OTHER_ENGINE:+$(realpath "$HYL_OTHER_ENGINE")}
 cd "$(dirname "$0")/second"

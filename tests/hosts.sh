@@ -1,14 +1,14 @@
 #!/bin/sh
 # Builds the host programs over the proved archives with warnings as errors, and runs them: the Rust package's tests, the headers, state letters and
 # records of another format in C, the views of a record in C and Rust, both policies and a record kept in a file in Rust and C (C also with
-# sanitizers), and the traces against their stored outputs. Needs gcc and cargo, and in target/staticlib what `rt staticlib engine` and `rt staticlib
-# wire` build. With g++ the headers and letters are tried in C++ too.
+# sanitizers), and the traces against their stored outputs. Needs gcc and cargo, and in target/staticlib what hosts/archives.sh builds. With g++ the
+# headers and letters are tried in C++ too.
 set -eu
 cd "$(dirname "$0")/.."
 
 archives="target/staticlib/libengine.a target/staticlib/libwire.a"
 for archive in $archives; do
-    test -f "$archive" || { echo "$archive is not there: run rt staticlib engine and rt staticlib wire first"; exit 1; }
+    test -f "$archive" || { echo "$archive is not there: run hosts/archives.sh first"; exit 1; }
 done
 out=target/hosts
 rm -rf "$out"

@@ -1,11 +1,11 @@
 #!/usr/bin/env bash
 # Runs the program rackrun on edge inputs and compares what it writes with the text of the second implementation; and on the traces of hosts/traces
 # that have a .rackrun file beside them, whose text it must write.
-#   tests/rackrun.sh [PROGRAM]    target/bin/rackrun, which `rt check rackrun` builds, where none is named
-# The second implementation and the trace tool are linked with the archives that `rt staticlib engine` and `rt staticlib wire` build. The engine does
-# not run here, only the step records' writer, which assembles the traces.
+#   tests/rackrun.sh [PROGRAM]    crates/rackrun/out/rackrun, which hosts/listing.sh builds, where none is named
+# The second implementation and the trace tool are linked with the archives that hosts/archives.sh builds. The engine does not run here, only the step
+# records' writer, which assembles the traces.
 set -euo pipefail
-program=$(realpath -m "${1:-"$(dirname "$0")/../target/bin/rackrun"}")
+program=$(realpath -m "${1:-"$(dirname "$0")/../crates/rackrun/out/rackrun"}")
 [ -x "$program" ] || { echo "no program $program" >&2; exit 1; }
 cd "$(dirname "$0")/second"
 [ -f ../../target/staticlib/libengine.a ] && [ -f ../../target/staticlib/libwire.a ] || { echo "no archives in target/staticlib" >&2; exit 1; }

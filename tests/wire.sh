@@ -3,7 +3,7 @@
 set -eu
 out=target/c
 mkdir -p "$out"
-test -f target/staticlib/libwire.a || rt staticlib wire >"$out/wire.log" 2>&1 || { tail -20 "$out/wire.log"; exit 1; }
+test -f target/staticlib/libwire.a || hosts/archives.sh wire
 flags="-std=c99 -Wall -Wextra -Wpedantic -Werror -Iinclude"
 for kind in plain sanitized; do
     case $kind in

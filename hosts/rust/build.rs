@@ -1,5 +1,5 @@
-//! Links the proved archives, which `rt staticlib engine` and `rt staticlib wire` build at the root
-//! of the repository. `HYALONETH_LIB` names another directory that has them.
+//! Links the proved archives, which `hosts/archives.sh` builds at the root of the repository.
+//! `HYALONETH_LIB` names another directory that has them.
 
 use std::env;
 use std::path::PathBuf;
@@ -17,7 +17,7 @@ fn main() {
         let archive = archives.join(format!("lib{name}.a"));
         assert!(
             archive.is_file(),
-            "{} is not there: run `rt staticlib {name}` at the root of the repository",
+            "{} is not there: run hosts/archives.sh at the root of the repository",
             archive.display()
         );
         println!("cargo:rerun-if-changed={}", archive.display());

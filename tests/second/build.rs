@@ -1,6 +1,6 @@
-//! Links the two proved archives, which `rt staticlib engine` and `rt staticlib wire` put into target/staticlib of the repository. Where
-//! HYL_OTHER_ENGINE names another archive of the engine, the benchmark measures that one too: its entries get other names first. Then the
-//! functions of both start at the same place of a page: where they stand elsewhere, an archive can be a tenth slower than itself.
+//! Links the two proved archives, which hosts/archives.sh puts into target/staticlib of the repository. Where HYL_OTHER_ENGINE names another
+//! archive of the engine, the benchmark measures that one too: its entries get other names first. Then the functions of both start at the same
+//! place of a page: where they stand elsewhere, an archive can be a tenth slower than itself.
 
 use std::path::{Path, PathBuf};
 use std::process::Command;
