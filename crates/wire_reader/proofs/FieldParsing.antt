@@ -7,7 +7,7 @@ use mathlib.Core.List.{List, [], ◌∷◌}
 use lib.Dec.{eqb, ltb}
 use lib.ListN.{length, get_or, set, take, drop, length-drop}
 use lib.Seq.{drop-drop}
-use borrow.Author.Tests.{eq-eqb, eqb-true, ltb-true, le-leb}
+use borrow.Author.Tests.{eq-eqb, ne_eqb, eqb-true, ltb-true, le-leb}
 use mathlib.Core.Logic.{⊎_elim}
 use Rattle.spec_base.proofs.Tests.{differs, either, lt_or_le, same_test, and_l, and_r, and_true}
 use Rattle.spec_base.specs.Number.{Bytes, number}
@@ -82,6 +82,13 @@ tag_own (suc (suc (suc (suc (suc (suc (suc zero))))))) a b = refl
 tag_own (suc (suc (suc (suc (suc (suc (suc (suc zero)))))))) a b = refl
 tag_own (suc (suc (suc (suc (suc (suc (suc (suc (suc zero))))))))) a b = refl
 tag_own (suc (suc (suc (suc (suc (suc (suc (suc (suc (suc k)))))))))) a b = absurd (omega arith)
+
+-- a byte out of the table's range is none of its tags
+pub tag_below : (tag byte : ℕ) → byte < 1 → TagSeen tag byte false
+tag_below tag byte l low high = sym (ne_eqb byte tag (λ e. omega (arith, e)))
+
+pub tag_above : (tag byte : ℕ) → 9 < byte → TagSeen tag byte false
+tag_above tag byte l low high = sym (ne_eqb byte tag (λ e. omega (arith, e)))
 
 -- a field by what was seen of its tag, its length low byte first, and its value
 pub tag_seen : (tag : ℕ) (s : List ℕ) (at : ℕ) → FieldRoom (field_of tag) at s → Bytes s → (turn long h t : Bool) (v : ℕ) → TagSeen tag (get_or s at 0) turn
