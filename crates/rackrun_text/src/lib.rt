@@ -1,5 +1,7 @@
 // The text of a run, as the program rackrun writes it.
 // order: line, lib
+#![tactic(auto)]
+
 pub mod line;
 
 ghost use Rattle.std.specs.Prelude.{◌≡◌, ◌+◌, ◌*◌, ◌/◌, ◌≤◌, ◌<◌, min, length, get_or};
