@@ -9,8 +9,7 @@ slice_bounds-put_steps-count c =
     (given c.args.rec.now c.args.input.now _ c.used_input-count.ensures _ c.open_from_input-reply.new.rec _ c.open_from_input-reply.ensures.reply c.steps_offset-from.ensures).inside
 
 pub slice_bounds-put_steps-start : goal.slice_bounds-put_steps-start
-slice_bounds-put_steps-start c =
-    (given c.args.rec.now c.args.input.now _ c.used_input-count.ensures _ c.open_from_input-reply.new.rec _ c.open_from_input-reply.ensures.reply c.steps_offset-from.ensures).inside
+slice_bounds-put_steps-start c = slice_bounds-put_steps-count c
 
 pub put_steps-requires : goal.put_steps-requires
 put_steps-requires c =
