@@ -107,15 +107,11 @@ fn import(line: &str) -> Option<(&'static str, &'static str, &str, &str)> {
     Some((of, part, file, line[length..].strip_prefix(".{")?.strip_suffix('}')?))
 }
 
-/// The start of a text as a path to a module: its crate, its folder, its name, and how many bytes of the text that is. Within a crate it is
-/// `Rattle·CRATE·specs.specs.MODULE`, from another `Rattle·CRATE.specs.MODULE`.
+/// The start of a text as a path to a module, `Rattle.CRATE.specs.MODULE`: its crate, its folder, its name, and how many bytes of the text that is.
 fn path(text: &str) -> Option<(&'static str, &'static str, &str, usize)> {
-    let rest = text.strip_prefix("Rattle·")?;
-    let end = rest.find(['·', '.'])?;
-    let name = *CRATES.iter().find(|name| **name == &rest[..end])?;
-    let rest = &rest[end..];
-    let within = rest.strip_prefix('·').and_then(|rest| Some(rest.split_once('.')?.1));
-    let (part, rest) = within.or(rest.strip_prefix('.'))?.split_once('.')?;
+    let (name, rest) = text.strip_prefix("Rattle.")?.split_once('.')?;
+    let name = *CRATES.iter().find(|known| **known == name)?;
+    let (part, rest) = rest.split_once('.')?;
     let part = *PARTS.iter().find(|known| **known == part)?;
     let end = rest.find(|c: char| !c.is_alphanumeric()).unwrap_or(rest.len());
     Some((name, part, &rest[..end], text.len() - rest.len() + end))
@@ -294,7 +290,8 @@ impl Sources {
             self.write_module(root, module, body);
         }
         let types = CRATES.map(|name| text(&Path::new("crates").join(name).join("src/lib.rt")));
-        let lines = types.iter().flat_map(|body| body.lines()).filter(|line| !line.starts_with("use spec_"));
+        let lines = types.iter().flat_map(|body| body.lines()).filter(|line| !line.starts_with("use spec_") && !line.starts_with("#!["));
+        let lines = ["// The types and constants of the specification.", "#![tactic(auto)]", ""].into_iter().chain(lines);
         write(&at.join("src/lib.rt"), &lines.map(|line| format!("{line}\n")).collect::<String>());
         write(&root.join("crates.txt"), &format!("{JOINED}:\n"));
     }
@@ -341,8 +338,8 @@ impl Sources {
             }
             if one.proved == *module || self.imported(module, &one.proof).as_ref() == Some(&one.proved) {
                 for field in &one.fields {
-                    let (taken, alone) = (format!("{} .{}", one.proof, field.name), one.split(field).1);
-                    out = with_word(&out, &taken, &format!("{alone} .{}", field.name));
+                    let (taken, alone) = (format!("{}.{}", one.proof, field.name), one.split(field).1);
+                    out = with_word(&out, &taken, &format!("{alone}.{}", field.name));
                 }
             }
         }
@@ -375,19 +372,19 @@ impl Sources {
     /// A text with the paths of the joined crate: a file has its crate's name before its own; what the prover makes of declared types has none.
     fn renamed(&self, body: &str) -> String {
         let (mut out, mut rest) = (String::new(), body);
-        while let Some(at) = rest.find("Rattle·") {
+        while let Some(at) = rest.find("Rattle.") {
             out.push_str(&rest[..at]);
             rest = &rest[at..];
             let length = match path(rest) {
                 Some((name, part, module, length)) => {
                     let key = (name, part, module.to_string());
                     let module = if self.modules.contains_key(&key) { joined(&key) } else { key.2 };
-                    write!(out, "Rattle·{JOINED}·{part}.{part}.{module}").expect("a string");
+                    write!(out, "Rattle.{JOINED}.{part}.{module}").expect("a string");
                     length
                 }
                 None => {
-                    out.push_str("Rattle·");
-                    "Rattle·".len()
+                    out.push_str("Rattle.");
+                    "Rattle.".len()
                 }
             };
             rest = &rest[length..];
@@ -404,7 +401,7 @@ fn joined((name, _, module): &Module) -> String {
 
 /// A text with one name for another, wherever that stands by itself.
 fn with_word(text: &str, old: &str, new: &str) -> String {
-    let part = |c: char| c.is_alphanumeric() || "-_′·".contains(c);
+    let part = |c: char| c.is_alphanumeric() || "-_'".contains(c);
     let (mut out, mut rest) = (String::new(), text);
     while let Some(at) = rest.find(old) {
         let (before, behind) = (&rest[..at], &rest[at + old.len()..]);
@@ -451,7 +448,7 @@ impl Edit {
     /// The names that the new text brings in and that an example unfolds only where its proof lists them: such an example may fail and not be false.
     fn may_be_stuck(&self, sources: &Sources) -> BTreeSet<String> {
         let words = |text: &str| -> BTreeSet<String> {
-            let split = text.split(|c: char| !(c.is_alphanumeric() || "._-′".contains(c)));
+            let split = text.split(|c: char| !(c.is_alphanumeric() || "._-'".contains(c)));
             split.filter(|word| !word.is_empty() && !word.contains('.')).map(String::from).collect()
         };
         let mut found = BTreeSet::new();
@@ -501,7 +498,7 @@ fn edit(of: &'static str, at: &Path) -> Edit {
 
 /// Whether the joined crate of a folder is proved, and what the prover says.
 fn check(root: &Path) -> (bool, String) {
-    let run = Command::new("rt").args(["dev", JOINED]).current_dir(root).output().unwrap_or_else(|error| fail(&format!("rt: {error}")));
+    let run = Command::new("rt").arg("check").current_dir(root.join("crates").join(JOINED)).output().unwrap_or_else(|error| fail(&format!("rt: {error}")));
     let said = String::from_utf8_lossy(&run.stdout).into_owned() + &String::from_utf8_lossy(&run.stderr);
     let verdict = |word: &str| said.lines().any(|line| line.split(' ').next() == Some(word));
     match run.status.code() {
@@ -511,9 +508,9 @@ fn check(root: &Path) -> (bool, String) {
     }
 }
 
-/// What the prover says of each edit, RT_JOBS of them at once, each in a copy of the joined crate.
+/// What the prover says of each edit, HYL_JOBS of them at once, each in a copy of the joined crate.
 fn try_all(sources: &Sources, edits: &[Edit], base: &Path, room: &Path) -> Vec<String> {
-    let jobs = std::env::var("RT_JOBS").ok().and_then(|jobs| jobs.parse().ok()).unwrap_or(2).max(1);
+    let jobs = std::env::var("HYL_JOBS").ok().and_then(|jobs| jobs.parse().ok()).unwrap_or(2).max(1);
     let (next, logs) = (AtomicUsize::new(0), Mutex::new(vec![String::new(); edits.len()]));
     std::thread::scope(|scope| {
         for _ in 0..jobs {
