@@ -1,4 +1,6 @@
 // The rack: types, and the constants of the record's layout. There is no code.
+#![tactic(auto)]
+
 use spec_wire::Refusal;
 
 // What an accepted step gives.

@@ -1,1 +1,2 @@
 // The text that rackrun writes. There is no code.
+#![tactic(auto)]

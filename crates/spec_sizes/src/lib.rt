@@ -1,4 +1,5 @@
 // The sizes of a rack, as an opening names them. There is no code.
+#![tactic(auto)]
 
 // N, B and T, and the most messages in flight (document 02, No. 5).
 #[derive(Clone, Copy)]

@@ -1,4 +1,5 @@
 // Step records and the refusal table: types, kind bytes and tags. There is no code.
+#![tactic(auto)]
 
 // A line of the table for each number, in the order of the numbers.
 #[derive(Clone, Copy)]
