@@ -4,7 +4,8 @@
 set -euo pipefail
 cd "$(dirname "$0")/.."
 mkdir -p target/host target/staticlib
-for name in ${*:-wire engine}; do
+[ $# -gt 0 ] || set -- wire engine
+for name in "$@"; do
     log=$PWD/target/host/$name.log
     (cd "crates/${name}_c" && rt lib) >"$log" 2>&1 || { tail -20 "$log"; exit 1; }
     cp "crates/${name}_c/out/lib${name}_c.a" "target/staticlib/lib$name.a"

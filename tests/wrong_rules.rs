@@ -73,7 +73,15 @@ struct Sources {
     /// in the order of the crates and of their Lib.antt
     order: Vec<Module>,
     statements: Vec<Statement>,
+    /// the laws of proofs/, and which of them each names
+    laws: BTreeMap<Law, Vec<Use>>,
 }
+
+/// A law: its file and its name.
+type Law = (Module, String);
+
+/// A law that a proof names, and where, by line and column.
+type Use = (Law, (usize, usize));
 
 impl Sources {
     fn read() -> Self {
@@ -88,8 +96,9 @@ impl Sources {
                 }
             }
         }
-        let mut sources = Sources { modules, order, statements: Vec::new() };
+        let mut sources = Sources { modules, order, statements: Vec::new(), laws: BTreeMap::new() };
         sources.statements = statements(&sources);
+        sources.laws = laws(&sources);
         sources
     }
 
@@ -115,6 +124,101 @@ fn path(text: &str) -> Option<(&'static str, &'static str, &str, usize)> {
     let part = *PARTS.iter().find(|known| **known == part)?;
     let end = rest.find(|c: char| !c.is_alphanumeric()).unwrap_or(rest.len());
     Some((name, part, &rest[..end], text.len() - rest.len() + end))
+}
+
+// ---- what stands on what
+
+/// The laws of the joined crate's proofs/, and which of them each names.
+fn laws(sources: &Sources) -> BTreeMap<Law, Vec<Use>> {
+    let proofs = sources.order.iter().filter(|module| module.1 == "proofs");
+    let texts: Vec<(&Module, String)> = proofs.map(|module| (module, sources.with_split(module, &sources.modules[module]))).collect();
+    let declared: Vec<Vec<Declaration>> = texts.iter().map(|(_, text)| declarations(text)).collect();
+    let known: BTreeSet<Law> = texts.iter().zip(&declared).flat_map(|((module, _), all)| all.iter().map(|one| ((*module).clone(), one.name.clone()))).collect();
+    let mut found: BTreeMap<Law, Vec<Use>> = BTreeMap::new();
+    for ((module, text), all) in texts.iter().zip(&declared) {
+        let mut named: BTreeMap<String, Law> = BTreeMap::new();
+        for (of, part, file, list) in text.lines().filter_map(import) {
+            for item in list.split(", ") {
+                let (name, here) = item.split_once(" as ").unwrap_or((item, item));
+                named.insert(here.to_string(), ((of, part, file.to_string()), name.to_string()));
+            }
+        }
+        for one in all {
+            // a law is named after it is declared
+            named.insert(one.name.clone(), ((*module).clone(), one.name.clone()));
+            let words = one.words.iter().filter(|(word, _)| *word != one.name);
+            let laws = words.filter_map(|(word, at)| Some((named.get(word).filter(|law| known.contains(law))?.clone(), (sources.original_line(module, at.0), at.1))));
+            found.entry(((*module).clone(), one.name.clone())).or_default().extend(laws);
+        }
+    }
+    found
+}
+
+/// A declaration of a file: its name, and the names in its text, but for fields, with where each stands.
+struct Declaration {
+    name: String,
+    words: Vec<(String, (usize, usize))>,
+}
+
+fn declarations(text: &str) -> Vec<Declaration> {
+    let mut found: Vec<Declaration> = Vec::new();
+    let (mut base, mut header, mut open) = (0, false, false);
+    for (number, line) in text.lines().enumerate() {
+        let code = line.split(" -- ").next().expect("a first part");
+        let rest = code.trim_start();
+        if rest.is_empty() || rest.starts_with("-- ") {
+            continue;
+        }
+        let indent = code.len() - rest.len();
+        base = base.min(indent);
+        if header || indent == base && rest.starts_with("module ") {
+            header = !rest.ends_with("where");
+            (base, open) = (if header { base } else { base + 2 }, false);
+            continue;
+        }
+        if indent == base {
+            if let Some(name) = declared_name(rest).filter(|name| !open || found.last().is_some_and(|one| one.name != *name)) {
+                found.push(Declaration { name: name.to_string(), words: Vec::new() });
+                open = true;
+            }
+            open &= !rest.starts_with("use ");
+        }
+        if let Some(one) = found.last_mut().filter(|_| open) {
+            one.words.extend(names_of(code).map(|(word, column)| (word.to_string(), (number + 1, column))));
+        }
+    }
+    found
+}
+
+/// The name that a line declares: the word before a colon, or behind `record`.
+fn declared_name(line: &str) -> Option<&str> {
+    let mut rest = line;
+    while let Some((_, behind)) = rest.split_once(' ').filter(|(word, _)| ["pub", "abbrev", "unfoldable", "record"].contains(word)) {
+        rest = behind;
+    }
+    let (name, behind) = rest.split_once(' ')?;
+    let before = behind.split(" = ").next()?;
+    (before.starts_with(": ") || before.contains(" : ")).then_some(name)
+}
+
+/// The names that a line uses, and the column of each: not those behind a point, which are fields, nor those before a colon or an equals sign, which it binds.
+fn names_of(line: &str) -> impl Iterator<Item = (&str, usize)> {
+    let part = |c: char| c.is_alphanumeric() || "_-'".contains(c);
+    let mut found = Vec::new();
+    let (mut start, mut before) = (None, ' ');
+    for (column, (at, c)) in line.char_indices().chain([(line.len(), ' ')]).enumerate() {
+        match (start, part(c)) {
+            (None, true) => start = Some((at, column + 1, before)),
+            (Some((from, column, before)), false) => {
+                let binds = [" = ", " : "].iter().any(|sign| line[at..].starts_with(sign)) || line[at..] == *" =";
+                found.extend((before != '.' && !binds).then_some((&line[from..at], column)));
+                start = None;
+            }
+            _ => {}
+        }
+        before = c;
+    }
+    found.into_iter()
 }
 
 // ---- what is stated: the named types of specs/ that have a proof
@@ -346,14 +450,6 @@ impl Sources {
         out
     }
 
-    /// Where a module of the joined crate has a law from: as before, and with a record the proofs of its fields.
-    fn home_of(&self, module: &Module, name: &str) -> Option<Module> {
-        let has = |one: &&Statement| {
-            one.fields.iter().any(|field| one.split(field).1 == name) && self.imported(module, &one.proof).as_ref() == Some(&one.proved)
-        };
-        self.imported(module, name).or(self.statements.iter().find(has).map(|one| one.proved.clone()))
-    }
-
     /// The line of a file that a line of it in the joined crate is, or stands behind.
     fn original_line(&self, module: &Module, mut line: usize) -> usize {
         let mut split: Vec<&Statement> = self.statements.iter().filter(|one| one.is_split() && one.proved == *module).collect();
@@ -552,17 +648,13 @@ fn try_one(sources: &Sources, edit: &Edit, base: &Path, root: &Path) -> String {
 
 // ---- what an edit is refused by
 
-/// A law: its file and its name.
-type Law = (Module, String);
-
 /// A statement, by its place, and a part of it: 0 for the whole, or a field's place from 1.
 type Item = (usize, usize);
 
-/// One complaint of the prover about a law, and where it is.
+/// One complaint about a law, and where it is: the prover's, or that it names a law that is refused.
 struct Complaint {
     at: (usize, usize),
-    /// the law below it that was not admitted, where that is what it says
-    below: Option<String>,
+    below: Option<Law>,
 }
 
 struct Tried<'a> {
@@ -591,7 +683,7 @@ impl<'a> Tried<'a> {
             for (item, one) in &items {
                 match &one.below {
                     Some(below) => {
-                        tried.standing.entry(*item).or_insert_with(|| first_refused(sources, &complaints, &law.0, below));
+                        tried.standing.entry(*item).or_insert_with(|| first_refused(&complaints, below));
                     }
                     None if sources.statements[item.0].is_computed(item.1) => {
                         tried.examples.insert(*item);
@@ -621,21 +713,26 @@ impl<'a> Tried<'a> {
     }
 }
 
-/// The complaints of a log by law, the laws in the order in which they were met, and what is no complaint about a law.
+/// The complaints by law, the laws in the order in which they were met, and what is no complaint about a law. Of the laws that stand on a refused one the
+/// prover names three and counts the rest, so they are found here by what each law names; there must be as many.
 fn complaints(sources: &Sources, log: &str) -> (BTreeMap<Law, Vec<Complaint>>, Vec<Law>, Vec<String>) {
     let by_file: BTreeMap<(String, &str), &Module> = sources.order.iter().map(|module| ((joined(module), module.1), module)).collect();
     let (mut found, mut order, mut amiss): (BTreeMap<Law, Vec<Complaint>>, Vec<Law>, Vec<String>) = Default::default();
+    let mut standing = 0;
     for line in log.lines() {
         let Some((place, what)) = line.split_once(": error: ") else { continue };
+        if let Some((number, _)) = what.split_once(" declaration").filter(|_| what.contains(" not checked: ")) {
+            standing += number.parse::<usize>().unwrap_or_else(|_| fail(&format!("how many laws is this: {what}")));
+            continue;
+        }
         let parsed = || {
             let mut parts = place.rsplitn(3, ':');
             let (column, number, file) = (parts.next()?.parse().ok()?, parts.next()?.parse().ok()?, Path::new(parts.next()?));
             let key = (file.file_stem()?.to_str()?.to_string(), file.parent()?.file_name()?.to_str()?);
-            let (name, why) = what.strip_prefix('`')?.split_once("`: ")?;
-            let below = why.strip_prefix('`').and_then(|rest| rest.split_once("` was not admitted")).map(|(below, _)| below.to_string());
+            let (name, _) = what.strip_prefix('`')?.split_once('`')?;
             let module = by_file.get(&key)?.to_owned().clone();
             let at = (sources.original_line(&module, number), column);
-            Some(((module, name.to_string()), Complaint { at, below }))
+            Some(((module, name.to_string()), Complaint { at, below: None }))
         };
         let Some((law, complaint)) = parsed() else {
             amiss.push(what.to_string());
@@ -645,6 +742,29 @@ fn complaints(sources: &Sources, log: &str) -> (BTreeMap<Law, Vec<Complaint>>, V
             order.push(law.clone());
         }
         found.entry(law).or_default().push(complaint);
+    }
+    let refused = order.len();
+    let mut next = 0;
+    while next < order.len() {
+        let below = order[next].clone();
+        for (law, uses) in &sources.laws {
+            let here = uses.iter().filter(|one| one.0 == below).map(|one| Complaint { at: one.1, below: Some(below.clone()) });
+            let here: Vec<Complaint> = here.collect();
+            if here.is_empty() || order[..refused].contains(law) {
+                continue;
+            }
+            if !found.contains_key(law) {
+                order.push(law.clone());
+            }
+            found.entry(law.clone()).or_default().extend(here);
+        }
+        next += 1;
+    }
+    for law in &order[refused..] {
+        found.get_mut(law).expect("it has complaints").sort_by_key(|one| one.at);
+    }
+    if order.len() - refused != standing {
+        fail(&format!("{} laws were found that stand on refused ones, where the prover counts {standing}", order.len() - refused));
     }
     (found, order, amiss)
 }
@@ -669,20 +789,9 @@ fn items<'c>(sources: &Sources, law: &Law, complaints: &'c [Complaint]) -> Vec<(
     found
 }
 
-/// The law at the bottom: from a name that a module uses down to what is refused at its own proof.
-fn first_refused(sources: &Sources, complaints: &BTreeMap<Law, Vec<Complaint>>, module: &Module, name: &str) -> Law {
-    let mut law = (module.clone(), name.to_string());
-    for _ in 0..=complaints.len() {
-        if !complaints.contains_key(&law) {
-            law.0 = sources.home_of(&law.0, &law.1).unwrap_or(law.0);
-        }
-        let below = complaints.get(&law).filter(|all| all.iter().all(|one| one.below.is_some())).and_then(|all| all[0].below.clone());
-        match below {
-            Some(below) => law.1 = below,
-            None => break,
-        }
-    }
-    law
+/// The law at the bottom: from a law down to what is refused at its own proof.
+fn first_refused(complaints: &BTreeMap<Law, Vec<Complaint>>, law: &Law) -> Law {
+    complaints.get(law).and_then(|all| all[0].below.as_ref()).map_or(law.clone(), |below| first_refused(complaints, below))
 }
 
 /// A law that is refused at its own proof; where that is a record, with the fields that are.
@@ -872,9 +981,9 @@ No edit of the rules refuses these: {} theorems and {} computed examples.
 ## The three invariants
 
 The proofs of single writer and multiple readers, data value and token conservation use one invariant, which a step keeps as a whole
-(`spec_rack/proofs/StepPreservation.step-keeps`). So a wrong rule that breaks any part of it takes the proof of all three, and no cell below says that an
-invariant is false. What tells the wrong rules apart are the laws that are refused at their own proof: `held-less` and `held-more` count tokens, `more-has`
-and `more-words` are about words, `reader` and `writer` about who may load and store.
+(`spec_rack/proofs/StepPreservation.step_keeps`). So a wrong rule that breaks any part of it takes the proof of all three, and no cell below says that an
+invariant is false. What tells the wrong rules apart are the laws that are refused at their own proof: `held_less` and `held_more` count tokens, `more_has`
+and `more_words` are about words, `reader` and `writer` about who may load and store.
 
 | edit | single writer, multiple readers | data value | token conservation | theorems and laws refused at their own proof |
 |---|---|---|---|---|

@@ -1,5 +1,5 @@
 -- The bytes read so far stand at the front of the buffer, and the reader has lost them.
-use Rattle.std.proofs.Common.{◌≡◌, ◌-◌, ◌≤◌, length, take}
+use Rattle.std.proofs.Common.{◌-◌, ◌≤◌, length, take}
 use Rattle.std.specs.Io.KnownBytes.{Consumes}
 use Rattle.rackrun.proofs.read_full.Given as goal
 
