@@ -49,7 +49,7 @@ pub returns : goal.returns
 returns c =
     let sound = sure _ _ c.sound.ensures c.if-not-sound.false in
     let on = sym (test c.args.rec.now c.args.component c.args.block _ _ _ c.either.ensures c.wide_at.ensures.0 c.wide_at-2.ensures.0) ∙ c.if-either.false in
-    letter_read c.args.rec.now c.args.component c.args.block sound on (λ k. (c.type_inv.rec k).fits) c.letter_at.result c.if-component-eq0.false c.letter_at.ensures
+    letter_read c.args.rec.now c.args.component c.args.block sound on (λ k. (c.type_inv.rec k).fits) c.letter_at.result (λ e. omega arith) c.letter_at.ensures
 
 pub letter_at-requires : goal.letter_at-requires
 letter_at-requires c =

@@ -46,5 +46,5 @@ overflow_cast-number_of c =
 
 pub returns : goal.returns
 returns c =
-    let both = wrote c.args.numbers.now c.is_step.result c.is_step.ensures c.args.at c.args.out.now c.if-not-is_step.false c.number_of.ensures.0 (c.put_numbers_at.ensures.answer, c.put_numbers_at.ensures.buffer) in
+    let both = wrote c.args.numbers.now c.is_step.result c.is_step.ensures c.args.at c.args.out.now (assumption) c.number_of.ensures.0 (c.put_numbers_at.ensures.answer, c.put_numbers_at.ensures.buffer) in
     record { answer = both.0; buffer = both.1 }

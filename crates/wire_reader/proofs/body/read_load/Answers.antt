@@ -29,4 +29,4 @@ unfolding kind_of field_of
 returns c =
     kind_reads 0x10 c.args.body.now c.both-2.result ((c.byte_field-c.result.ok, c.byte_field-c.result.value) ∷ (c.byte_field-b.result.ok, c.byte_field-b.result.value) ∷ (c.byte_field-w.result.ok, c.byte_field-w.result.value) ∷ [])
     (c.both-2.ensures ∙ ap (λ (t : Bool). c.byte_field-c.result.ok && t) c.both.ensures) refl
-    (c.byte_field-c.ensures, (c.byte_field-b.ensures, (c.byte_field-w.ensures, omega (arith, c.if-body-ne12.false))))
+    (c.byte_field-c.ensures, (c.byte_field-b.ensures, (c.byte_field-w.ensures, omega arith)))

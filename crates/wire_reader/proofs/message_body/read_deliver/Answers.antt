@@ -19,4 +19,4 @@ pub returns : goal.returns
 unfolding kind_of field_of
 returns c =
     kind_reads 0x13 c.args.body.now c.byte_field-i.result.ok ((c.byte_field-i.result.ok, c.byte_field-i.result.value) ∷ []) refl refl
-    (c.byte_field-i.ensures, omega (arith, c.if-body-ne4.false))
+    (c.byte_field-i.ensures, omega arith)
