@@ -156,7 +156,7 @@ pub record AsBefore : Type 0 where
   pub list : (r : Rack) (ss : List Step) → none_bare r ss ≡ true
       → (rack_replies r ss ≡ replies_of after_before_bare reply_before_bare r ss) × (run r ss ≡ run_all after_before_bare r ss)
 
--- ---- an example by the rules before: of `given_back_lem` every owner without data was refused with 12; so board 2 kept the block, and home had no token for
+-- ---- an example by the rules before: of `given_back` every owner without data was refused with 12; so board 2 kept the block, and home had no token for
 -- board 1
 
 abbrev pub GivenBackBefore : Type 0
