@@ -7,7 +7,7 @@ ghost use Rattle.spec_rack.specs.RecordLayout.{claims_at_offset, claims_size};
 use super::sets;
 use base::numbers::u16_at;
 use spec_rack::WAITING_OFFSET;
-use spec_wire::{Check, Refusal};
+use spec_wire::{Refusal};
 
 // The waiting set.
 pub fn waiting_at(rec: &[u8], at: usize) -> u16
@@ -26,29 +26,29 @@ pub fn active_at(rec: &[u8], at: usize) -> u8
 }
 
 // The verdict on a board's raise.
-pub fn raise_check(rec: &[u8], at: usize, board: u8) -> Check
+pub fn raise_check(rec: &[u8], at: usize, board: u8) -> Result<(), Refusal>
     requires { (at + claims_size ≤ length rec.now) × (1 ≤ board) × (board < 16) }
     ensures { (n : ℕ) → board ≤ n → n < 16 → result ≡ raise_check (claims_at_offset n at rec.now) board }
 {
     let waits = sets::member(waiting_at(rec, at), board);
     if waits {
-        return Check::Refuse(Refusal::Waiting);
+        return Err(Refusal::Waiting);
     }
     let own = u16_at(rec, at + 2 * (board as usize));
     if own != 0 {
-        return Check::Refuse(Refusal::Barred);
+        return Err(Refusal::Barred);
     }
-    Check::Pass
+    Ok(())
 }
 
 // The verdict on a board's lower.
-pub fn lower_check(rec: &[u8], at: usize, board: u8) -> Check
+pub fn lower_check(rec: &[u8], at: usize, board: u8) -> Result<(), Refusal>
     requires { (at + claims_size ≤ length rec.now) × (board < 16) }
     ensures { (n : ℕ) → result ≡ lower_check (claims_at_offset n at rec.now) board }
 {
     let w = waiting_at(rec, at);
     if sets::member(w, board) {
-        return Check::Pass;
+        return Ok(());
     }
-    Check::Refuse(Refusal::NotWaiting)
+    Err(Refusal::NotWaiting)
 }

@@ -10,14 +10,13 @@ use lib.ListN.{get_or}
 use Rattle.spec_base.specs.Folds.{toℕ}
 use Rattle.spec_base.proofs.Tests.{or_l, or_r, eqb_one}
 use Rattle.spec_wire.specs.declared.Refusal.TheVariants.{Unsound, OffRack, Home}
-use Rattle.spec_wire.specs.declared.Check.{Check}
-use Rattle.spec_wire.specs.declared.Check.TheVariants.{Pass, Refuse}
+use Rattle.std.specs.Prelude.{Ok, Err}
+use Rattle.spec_wire.specs.Answers.{Check, no_refusal}
 use Rattle.spec_wire.specs.Refusals.{when◌refuse◌else◌}
 use Rattle.spec_wire.proofs.RefusalTable.{table}
 use Rattle.spec_base.specs.Number.{Bytes}
 use Rattle.spec_rack.specs.declared.Letter.{Letter}
 use Rattle.spec_rack.specs.declared.Letter.TheVariants.{M, O, E, S, I}
-use Rattle.spec_rack.specs.declared.Lettered.TheVariants as Lettered
 use Rattle.spec_rack.specs.Rack.{clean, zeros, cell_at}
 use Rattle.spec_rack.specs.Letter.{letter_check, letter_of, lettered, letter, letter_reply}
 use Rattle.spec_rack.specs.RecordLayout.{block_offset, owner_offset, valid_offset, dirty_offset, owner_of, to_cell, cell_at_offset, get, blocks_in, boards_in, tokens_in}
@@ -30,7 +29,7 @@ use Rattle.engine_letter.proofs.LetterCell.{whole}
 
 -- ---- the letter
 
-pub letter_unsound : (s : List ℕ) (c b : ℕ) → sound_bytes s ≡ false → Lettered.Refused Unsound ≡ letter_reply s c b
+pub letter_unsound : (s : List ℕ) (c b : ℕ) → sound_bytes s ≡ false → Err Unsound ≡ letter_reply s c b
 unfolding letter_reply
 letter_unsound s c b e = rw e
 
@@ -40,21 +39,21 @@ module _ (s : List ℕ) (c b : ℕ) (ok : sound_bytes s ≡ true) where
   verdict =
       when ltb (boards_in s) c || leb (blocks_in s) b refuse OffRack else
       when eqb c 0 refuse Home else
-      Pass
+      no_refusal
 
   letter_is : (k : Check) → k ≡ verdict → lettered k (letter_of (get s).tokens (cell_at (get s) b c)) ≡ letter_reply s c b
   unfolding letter_reply letter letter_check
   letter_is k e = rw (ok, boards_is s, blocks_is s, e)
 
-  pub letter_off_rack : (ltb (boards_in s) c || leb (blocks_in s) b) ≡ true → Lettered.Refused OffRack ≡ letter_reply s c b
-  letter_off_rack h = letter_is (Refuse OffRack) (search table depth 10)
+  pub letter_off_rack : (ltb (boards_in s) c || leb (blocks_in s) b) ≡ true → Err OffRack ≡ letter_reply s c b
+  letter_off_rack h = letter_is (Err OffRack) (search table depth 10)
 
   module _ (on : (ltb (boards_in s) c || leb (blocks_in s) b) ≡ false) where
     pub on_rack : (b < blocks_in s) × (c ≤ boards_in s)
     on_rack = (leb-false (blocks_in s) b (or_r (ltb (boards_in s) c) (leb (blocks_in s) b) on), ltb-false (boards_in s) c (or_l (ltb (boards_in s) c) (leb (blocks_in s) b) on))
 
-    pub letter_home : c ≡ 0 → Lettered.Refused Home ≡ letter_reply s c b
-    letter_home h = letter_is (Refuse Home) (search table depth 10)
+    pub letter_home : c ≡ 0 → Err Home ≡ letter_reply s c b
+    letter_home h = letter_is (Err Home) (search table depth 10)
 
     module _ (bytes : Bytes s) where
       pub letter_mark : get_or s (block_offset b + c + owner_offset) 0 < 2
@@ -68,11 +67,11 @@ module _ (s : List ℕ) (c b : ℕ) (ok : sound_bytes s ≡ true) where
           let d : block_offset b + dirty_offset + c ≡ block_offset b + c + dirty_offset = omega arith in
           rw (e, d) at ((lanes_of s (whole s bytes ok).well_formed b on_rack.0).dirties c on_rack.1)
 
-      pub letter_read : (x : Letter) → (c ≡ 0 → ⊥) → x ≡ letter_of (tokens_in s) (cell_at_offset s (block_offset b + c)) → Lettered.Letter x ≡ letter_reply s c b
+      pub letter_read : (x : Letter) → (c ≡ 0 → ⊥) → x ≡ letter_of (tokens_in s) (cell_at_offset s (block_offset b + c)) → Ok x ≡ letter_reply s c b
       letter_read x h ex =
-          ap Lettered.Letter ex
-          ∙ (λ i. Lettered.Letter (letter_of (sym (tokens_is s) i) (to_cell (sym (tokens_at s (whole s bytes ok).well_formed b c on_rack.0 on_rack.1 (block_offset b + c) refl) i, zeros))))
-          ∙ letter_is Pass (search table depth 10)
+          ap Ok ex
+          ∙ (λ i. Ok (letter_of (sym (tokens_is s) i) (to_cell (sym (tokens_at s (whole s bytes ok).well_formed b c on_rack.0 on_rack.1 (block_offset b + c) refl) i, zeros))))
+          ∙ letter_is no_refusal (search table depth 10)
 
 -- ---- the letter of a cell
 

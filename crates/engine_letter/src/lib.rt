@@ -7,10 +7,7 @@ ghost use Rattle.spec_rack.specs.RecordLayout.{owner_offset, dirty_offset, cell_
 
 use base::{either, wide_at};
 use record_soundness::sound;
-use spec_rack::{
-    BLOCK_COUNT_OFFSET, BLOCK_SIZE, BLOCKS_OFFSET, BOARD_COUNT_OFFSET, DIRTY_OFFSET, Letter,
-    Lettered, OWNER_OFFSET, TOKEN_COUNT_OFFSET, VALID_OFFSET,
-};
+use spec_rack::{BLOCK_COUNT_OFFSET, BLOCK_SIZE, BLOCKS_OFFSET, BOARD_COUNT_OFFSET, DIRTY_OFFSET, Letter, OWNER_OFFSET, TOKEN_COUNT_OFFSET, VALID_OFFSET};
 use spec_wire::Refusal;
 
 // The letter of the component whose plain count is at `at`.
@@ -36,21 +33,21 @@ fn letter_at(rec: &[u8], at: usize) -> Letter
     }
 }
 
-pub fn letter(rec: &[u8], component: u32, block: u32) -> Lettered
+pub fn letter(rec: &[u8], component: u32, block: u32) -> Result<Letter, Refusal>
     ensures { result ≡ letter_reply rec.now component block }
 {
     if !sound(rec) {
-        return Lettered::Refused(Refusal::Unsound);
+        return Err(Refusal::Unsound);
     }
     if either(
         wide_at(rec, BOARD_COUNT_OFFSET) < component,
         wide_at(rec, BLOCK_COUNT_OFFSET) <= block,
     ) {
-        return Lettered::Refused(Refusal::OffRack);
+        return Err(Refusal::OffRack);
     }
     if component == 0 {
-        return Lettered::Refused(Refusal::Home);
+        return Err(Refusal::Home);
     }
     let at = BLOCKS_OFFSET + BLOCK_SIZE * (block as usize) + component as usize;
-    Lettered::Letter(letter_at(rec, at))
+    Ok(letter_at(rec, at))
 }

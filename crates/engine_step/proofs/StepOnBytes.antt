@@ -6,11 +6,10 @@ use mathlib.Core.List.{List}
 use Rattle.spec_base.specs.Number.{Bytes}
 use Rattle.spec_wire.specs.declared.Refusal.TheVariants.{Unsound}
 use Rattle.spec_wire.specs.declared.Step.{Step}
-use Rattle.spec_wire.specs.declared.Reading.{Reading}
-use Rattle.spec_wire.specs.declared.Reading.TheVariants.{Step as Read}
+use Rattle.std.specs.Prelude.{Ok, Err}
+use Rattle.spec_rack.specs.Replies.{Reply}
+use Rattle.spec_wire.specs.Answers.{Reading}
 use Rattle.spec_wire.specs.Reader.{read_record}
-use Rattle.spec_rack.specs.declared.Reply.{Reply}
-use Rattle.spec_rack.specs.declared.Reply.TheVariants.{Refused}
 use Rattle.spec_rack.specs.Rules.{refused, rules, reply}
 use Rattle.spec_rack.specs.RecordLayout.{get}
 use Rattle.spec_rack.specs.Soundness.{sound_bytes}
@@ -24,12 +23,12 @@ use Rattle.spec_rack.specs.Entries.{reply_to_step, buffer_after, buffer_after_ou
 module _ (s : List ℕ) (sound : Bool) (known : sound ≡ sound_bytes s) where
   -- a reply and a buffer that the outcome of a step leaves
   abbrev pub Settles : Step → Reply → List ℕ → Type 0
-  Settles t r s' = (r ≡ reply (outcome (Read t) s)) × (s' ≡ buffer_after_outcome s (outcome (Read t) s))
+  Settles t r s' = (r ≡ reply (outcome (Ok t) s)) × (s' ≡ buffer_after_outcome s (outcome (Ok t) s))
 
-  by_soundness : (t : Step) (b : Bool) → sound ≡ b → cond b (rules (get s) t) (refused Unsound) ≡ outcome (Read t) s
+  by_soundness : (t : Step) (b : Bool) → sound ≡ b → cond b (rules (get s) t) (refused Unsound) ≡ outcome (Ok t) s
   by_soundness t b e = ap (λ (u : Bool). cond u (rules (get s) t) (refused Unsound)) (sym e ∙ known)
 
-  pub not_sound : sound ≡ false → (t : Step) (r : Reply) → r ≡ Refused Unsound → Settles t r s
+  pub not_sound : sound ≡ false → (t : Step) (r : Reply) → r ≡ Err Unsound → Settles t r s
   not_sound h t r e = let q = by_soundness t false h in (e ∙ ap reply q, ap (buffer_after_outcome s) q)
 
   module _ (h : sound ≡ true) where

@@ -16,8 +16,8 @@ use Rattle.spec_wire.specs.declared.Refusal.{Refusal}
 use Rattle.spec_wire.specs.Refusals.{number}
 use Rattle.spec_wire.proofs.RefusalTable.{number_known}
 use Rattle.spec_rack.specs.declared.Answer.TheVariants.{Done, Word, Served}
-use Rattle.spec_rack.specs.declared.Reply.{Reply}
-use Rattle.spec_rack.specs.declared.Reply.TheVariants.{Accepted, Refused}
+use Rattle.std.specs.Prelude.{Ok, Err}
+use Rattle.spec_rack.specs.Replies.{Reply}
 use Rattle.spec_rackrun.specs.Rackrun.{digit, digits, decimal, reply_text, reply_line, line}
 
 -- ---- lengths
@@ -38,10 +38,10 @@ length_digits b (suc k) n = omega (arith, length-append (digits b k (n / b)) (di
 
 length_said : (r : Reply) → length (reply_text r) ≤ 9
 unfolding reply_text
-length_said (Accepted Done) = omega arith
-length_said (Accepted (Word w)) = omega (arith, length_digits 16 8 w)
-length_said (Accepted (Served c b)) = omega (arith, length-append (decimal 2 c) (46 ∷ decimal 2 b), length_decimal 2 c, length_decimal 2 b)
-length_said (Refused r) = omega (arith, length_decimal 1 (number r))
+length_said (Ok Done) = omega arith
+length_said (Ok (Word w)) = omega (arith, length_digits 16 8 w)
+length_said (Ok (Served c b)) = omega (arith, length-append (decimal 2 c) (46 ∷ decimal 2 b), length_decimal 2 c, length_decimal 2 b)
+length_said (Err r) = omega (arith, length_decimal 1 (number r))
 
 pub length_line : (i : ℕ) (r : Reply) → length (line i r) ≤ 16
 unfolding line
@@ -89,11 +89,11 @@ byte_width n w l e = omega (arith, ap length (decimal_three n (omega arith) ∙ 
 
 -- ---- what is said
 
-pub said_word : (w : ℕ) → reply_text (Accepted (Word w)) ≡ 118 ∷ digits 16 8 w
+pub said_word : (w : ℕ) → reply_text (Ok (Word w)) ≡ 118 ∷ digits 16 8 w
 unfolding reply_text
 said_word w = refl
 
-pub said_refused : (r : Refusal) (n w : ℕ) → n ≡ number r → decimal 4 n ≡ digits 10 w n → reply_text (Refused r) ≡ 114 ∷ digits 10 w n
+pub said_refused : (r : Refusal) (n w : ℕ) → n ≡ number r → decimal 4 n ≡ digits 10 w n → reply_text (Err r) ≡ 114 ∷ digits 10 w n
 unfolding reply_text
 said_refused r n w e d = ap (λ (l : List ℕ). 114 ∷ l) (decimal_two (number r) (omega (arith, number_known r)) ∙ ap (decimal 4) (sym e) ∙ d)
 
@@ -155,7 +155,7 @@ number_placed at last letter b k n end out out₁ h (p, q) = (
 )
 
 -- `ok`, byte by byte
-pub done_placed : (at : ℕ) (out : List ℕ) → at + 3 ≤ length out → Placed at (reply_line (Accepted Done)) out (at + 3) (set (set (set out at 111) (at + 1) 107) (at + 2) 10)
+pub done_placed : (at : ℕ) (out : List ℕ) → at + 3 ≤ length out → Placed at (reply_line (Ok Done)) out (at + 3) (set (set (set out at 111) (at + 1) 107) (at + 2) 10)
 unfolding reply_text
 done_placed at out h =
     let one : List ℕ = set out at 111 in
@@ -177,12 +177,12 @@ reply_placed at last letter b k n r out out₁ e (p, q) =
 pub served_placed : (at next last c b w v : ℕ) (out out₁ out₂ : List ℕ) → at ≤ length out → c < 256 → b < 256
     → decimal 4 c ≡ digits 10 w c → decimal 4 b ≡ digits 10 v b
     → (next ≡ at + w + 2) × (out₁ ≡ place at (100 ∷ (digits 10 w c ++ 46 ∷ [])) out) → (last ≡ next + v + 1) × (out₂ ≡ place next (digits 10 v b ++ 10 ∷ []) out₁)
-    → Placed at (reply_line (Accepted (Served c b))) out last out₂
+    → Placed at (reply_line (Ok (Served c b))) out last out₂
 unfolding reply_text
 served_placed at next last c b w v out out₁ out₂ h lc lb ec eb (p, q) (p', q') =
     let dc : decimal 2 c ≡ digits 10 w c = decimal_three c (omega arith) ∙ ec in
     let db : decimal 2 b ≡ digits 10 v b = decimal_three b (omega arith) ∙ eb in
-    placed_same at last ((100 ∷ (digits 10 w c ++ 46 ∷ [])) ++ (digits 10 v b ++ 10 ∷ [])) (reply_line (Accepted (Served c b))) out out₂
+    placed_same at last ((100 ∷ (digits 10 w c ++ 46 ∷ [])) ++ (digits 10 v b ++ 10 ∷ [])) (reply_line (Ok (Served c b))) out out₂
     (ap {B = List ℕ} (λ l. 100 ∷ l) (append_assoc (digits 10 w c) (46 ∷ []) (digits 10 v b ++ 10 ∷ []) ∙ (λ j. sym dc j ++ 46 ∷ (sym db j ++ 10 ∷ [])) ∙ sym (append_assoc (decimal 2 c) (46 ∷ decimal 2 b) (10 ∷ []))))
     (placed_more at next last (100 ∷ (digits 10 w c ++ 46 ∷ [])) (digits 10 v b ++ 10 ∷ []) out out₁ out₂ h
     (omega (arith, length-append (digits 10 w c) (46 ∷ []), length_digits 10 w c), q) (omega (arith, length-append (digits 10 v b) (10 ∷ []), length_digits 10 v b), q'))

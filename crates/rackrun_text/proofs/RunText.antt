@@ -16,8 +16,8 @@ use Rattle.spec_base.specs.Placing.{place}
 use Rattle.spec_base.proofs.Placing.{length_place, place_none, place_more, Placed, placed_more, placed_same}
 use Rattle.spec_wire.specs.declared.Refusal.TheVariants.{Torn}
 use Rattle.spec_rack.specs.declared.Answer.{Answer}
-use Rattle.spec_rack.specs.declared.Reply.{Reply}
-use Rattle.spec_rack.specs.declared.Reply.TheVariants.{Accepted, Refused}
+use Rattle.std.specs.Prelude.{Ok, Err}
+use Rattle.spec_rack.specs.Replies.{Reply}
 use Rattle.spec_rackrun.specs.Rackrun.{line, lines, step_lines, opening_reply, opening_after, steps_offset, text, after_steps, record_after_run}
 use Rattle.rackrun_text.proofs.LineLaws.{length_line}
 use Rattle.spec_rack.specs.Opening.{open_reply, open_after}
@@ -174,13 +174,13 @@ byte_used input i h = get_or-take 65536 input i 0 h
 module _ (s input : List ℕ) where
   told_used : opening_reply s (take 65536 input) ≡ opening_reply s input
   unfolding opening_reply
-  told_used = λ i. cond (short_used input i) (Refused Torn) (open_reply (byte_used input 0 (omega arith) i) (byte_used input 1 (omega arith) i) (byte_used input 2 (omega arith) i) s)
+  told_used = λ i. cond (short_used input i) (Err Torn) (open_reply (byte_used input 0 (omega arith) i) (byte_used input 1 (omega arith) i) (byte_used input 2 (omega arith) i) s)
 
   opened_used : opening_after s (take 65536 input) ≡ opening_after s input
   unfolding opening_after
   opened_used = λ i. cond (short_used input i) s (open_after (byte_used input 0 (omega arith) i) (byte_used input 1 (omega arith) i) (byte_used input 2 (omega arith) i) s)
 
-  pub opening_torn : length input < 3 → (Refused Torn ≡ opening_reply s input) × (s ≡ opening_after s input)
+  pub opening_torn : length input < 3 → (Err Torn ≡ opening_reply s input) × (s ≡ opening_after s input)
   unfolding opening_reply opening_after
   opening_torn l = rw (lt-ltb (length input) 3 l) (refl, refl)
 
@@ -189,7 +189,7 @@ module _ (s input : List ℕ) where
   unfolding opening_reply opening_after
   opening_made l n b t en eb et r rec (p, q) = rw (le-ltb (length input) 3 l) (p ∙ (λ i. open_reply (en i) (eb i) (et i) s), q ∙ (λ i. open_after (en i) (eb i) (et i) s))
 
-  accepted_long : (a : Answer) → Accepted a ≡ opening_reply s input → 3 ≤ length input
+  accepted_long : (a : Answer) → Ok a ≡ opening_reply s input → 3 ≤ length input
   accepted_long a e = by (dec_le 3 (length input))
     where
       by : Dec (3 ≤ length input) → 3 ≤ length input
@@ -239,7 +239,7 @@ module _ (s input : List ℕ) (n : ℕ) (is : n ≡ min 65536 (length input)) wh
       pub rest : after rec (frames 65536 steps) ≡ after_steps r rec (drop 3 (take 65536 input))
 
     pub given : (rec : List ℕ) (r : Reply) → r ≡ opening_reply s input → from ≡ steps_offset r n → Given r rec
-    given rec (Accepted a) e f =
+    given rec (Ok a) e f =
         let l : 3 ≤ length input = accepted_long s input a e in
         record {
           inside = omega arith;
@@ -247,7 +247,7 @@ module _ (s input : List ℕ) (n : ℕ) (is : n ≡ min 65536 (length input)) wh
           told_lines = ap (λ (u : List ℕ). lines 1 (replies rec (frames 65536 u))) (steps_all l f);
           rest = ap (λ (u : List ℕ). after rec (frames 65536 u)) (steps_all l f);
         }
-    given rec (Refused x) e f =
+    given rec (Err x) e f =
         let none : frames 65536 steps ≡ [] = cuts_none 65536 steps (ap length (steps_none f)) in
         record {
           inside = omega arith;

@@ -13,7 +13,7 @@ ghost use Rattle.spec_rack.specs.RecordLayout.{longest_record};
 ghost use Rattle.spec_rackrun.specs.RuledText.{ruled_text};
 
 use base::wide_at;
-use spec_rack::{LONGEST_RECORD, Reply};
+use spec_rack::{LONGEST_RECORD};
 use spec_wire::Refusal;
 
 // Gives the step records of a list to the record, and places the steps' lines.
@@ -36,23 +36,23 @@ fn put_steps(rec: &mut [u8], list: &[u8], out: &mut [u8], at: usize) -> usize
 }
 
 // Opens a rack with the first three bytes of an input.
-fn open_from_input(rec: &mut [u8], input: &[u8]) -> Reply
+fn open_from_input(rec: &mut [u8], input: &[u8]) -> Result<Answer, Refusal>
     ensures reply { result ≡ opening_reply rec.old input.now }
     ensures buffer { rec.new ≡ opening_after rec.old input.now }
 {
     if input.len() < 3 {
-        return Reply::Refused(Refusal::Torn);
+        return Err(Refusal::Torn);
     }
     record_open::open(rec, wide_at(input, 0), wide_at(input, 1), wide_at(input, 2))
 }
 
 // Where the steps start in an input of so many bytes: there are none where the opening was refused.
-fn steps_offset(reply: Reply, count: usize) -> usize
+fn steps_offset(reply: Result<Answer, Refusal>, count: usize) -> usize
     ensures { result ≡ steps_offset reply count }
 {
     match reply {
-        Reply::Accepted(_) => 3,
-        Reply::Refused(_) => count,
+        Ok(_) => 3,
+        Err(_) => count,
     }
 }
 

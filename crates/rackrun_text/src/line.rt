@@ -3,7 +3,7 @@ ghost use Rattle.std.specs.Prelude.{◌≡◌, ◌+◌, ◌≤◌, ◌<◌, [], 
 ghost use Rattle.spec_base.specs.Placing.{place};
 ghost use Rattle.spec_rackrun.specs.Rackrun.{digit, digits, decimal, reply_line, line};
 
-use spec_rack::{Answer, Reply};
+use spec_rack::{Answer};
 
 // A digit in ASCII.
 fn digit(n: u64) -> u8
@@ -65,7 +65,7 @@ fn put_number(
 // Places whom a deliver served, component, point and block, and the newline.
 fn put_served(out: &mut [u8], at: usize, component: u8, block: u8) -> usize
     requires { at + 10 ≤ length out.old }
-    ensures { (result ≡ at + length (reply_line (Reply.Accepted (Answer.Served component block)))) × (out.new ≡ place at (reply_line (Reply.Accepted (Answer.Served component block))) out.old) }
+    ensures { (result ≡ at + length (reply_line (Ok (Answer.Served component block)))) × (out.new ≡ place at (reply_line (Ok (Answer.Served component block))) out.old) }
 {
     let first = component as u64;
     let second = block as u64;
@@ -76,7 +76,7 @@ fn put_served(out: &mut [u8], at: usize, component: u8, block: u8) -> usize
 // Places `ok` and the newline.
 fn put_done(out: &mut [u8], at: usize) -> usize
     requires { at + 3 ≤ length out.old }
-    ensures { (result ≡ at + length (reply_line (Reply.Accepted Answer.Done))) × (out.new ≡ place at (reply_line (Reply.Accepted Answer.Done)) out.old) }
+    ensures { (result ≡ at + length (reply_line (Ok Answer.Done))) × (out.new ≡ place at (reply_line (Ok Answer.Done)) out.old) }
 {
     out[at] = b'o';
     out[at + 1] = b'k';
@@ -85,17 +85,17 @@ fn put_done(out: &mut [u8], at: usize) -> usize
 }
 
 // Places the text of a reply and the newline.
-fn put_reply(out: &mut [u8], at: usize, reply: Reply) -> usize
+fn put_reply(out: &mut [u8], at: usize, reply: Result<Answer, Refusal>) -> usize
     requires { at + 10 ≤ length out.old }
     ensures { (result ≡ at + length (reply_line reply)) × (out.new ≡ place at (reply_line reply) out.old) }
 {
     match reply {
-        Reply::Accepted(answer) => match answer {
+        Ok(answer) => match answer {
             Answer::Done => put_done(out, at),
             Answer::Word(word) => put_number(out, at, b'v', 16, 8, word as u64, b'\n'),
             Answer::Served { component, block } => put_served(out, at, component, block),
         },
-        Reply::Refused(refusal) => {
+        Err(refusal) => {
             let n = base::results::number(refusal);
             put_number(out, at, b'r', 10, width(n), n, b'\n')
         }
@@ -103,7 +103,7 @@ fn put_reply(out: &mut [u8], at: usize, reply: Reply) -> usize
 }
 
 // Places a line.
-pub fn put_line(out: &mut [u8], at: usize, index: u64, reply: Reply) -> usize
+pub fn put_line(out: &mut [u8], at: usize, index: u64, reply: Result<Answer, Refusal>) -> usize
     requires { at + 16 ≤ length out.old }
     ensures { (result ≡ at + length (line index reply)) × (out.new ≡ place at (line index reply) out.old) }
 {

@@ -9,9 +9,7 @@ ghost use Rattle.record.specs.Changes.{TokenStateOf, with_token_state, replace_c
 use super::{TokenState, owner, tokens, words};
 use base::byte_at;
 use base::numbers::{put_u32, u32_at};
-use spec_rack::{
-    BLOCK_SIZE, BLOCKS_OFFSET, DIRTY_OFFSET, OWNER_OFFSET, VALID_OFFSET, WORDS_OFFSET, WORDS_SIZE,
-};
+use spec_rack::{BLOCK_SIZE, BLOCKS_OFFSET, DIRTY_OFFSET, OWNER_OFFSET, VALID_OFFSET, WORDS_OFFSET, WORDS_SIZE};
 
 // The offset of a component's plain count in a block.
 pub fn plain_offset(block: u8, component: u8) -> usize

@@ -15,11 +15,7 @@ ghost use Rattle.record.specs.Changes.{with_words, replace_cell, with_mesh};
 
 use base::byte_at;
 use record::{TokenState, cells, owner, tokens, words};
-use spec_rack::{
-    DATA_OFFSET, HEADER_SIZE, MESSAGE_BLOCK_OFFSET, MESSAGE_COUNT_OFFSET, MESSAGE_DIRTY_OFFSET,
-    MESSAGE_OWNER_OFFSET, MESSAGE_PLAIN_OFFSET, MESSAGE_SIZE, MESSAGE_WORDS_OFFSET,
-    MESSAGE_ZERO_OFFSET, Message, MessageHeader, SENDER_OFFSET, TARGET_OFFSET, WORDS_SIZE,
-};
+use spec_rack::{DATA_OFFSET, HEADER_SIZE, MESSAGE_BLOCK_OFFSET, MESSAGE_COUNT_OFFSET, MESSAGE_DIRTY_OFFSET, MESSAGE_OWNER_OFFSET, MESSAGE_PLAIN_OFFSET, MESSAGE_SIZE, MESSAGE_WORDS_OFFSET, MESSAGE_ZERO_OFFSET, Message, MessageHeader, SENDER_OFFSET, TARGET_OFFSET, WORDS_SIZE};
 
 // The offset of the message at a position.
 pub fn message_offset(position: u8) -> usize

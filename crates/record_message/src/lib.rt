@@ -6,11 +6,7 @@ ghost use Rattle.spec_rack.specs.RecordLayout.{message_size};
 ghost use Rattle.record_message.specs.Messages.{token_sum_at, endpoints_known, sound_bare_owner, sound_flags, sound_message_at};
 
 use base::{all_zero, both, byte_at, wide};
-use spec_rack::{
-    DATA_OFFSET, MESSAGE_BLOCK_OFFSET, MESSAGE_DIRTY_OFFSET, MESSAGE_OWNER_OFFSET,
-    MESSAGE_PLAIN_OFFSET, MESSAGE_WORDS_OFFSET, MESSAGE_ZERO_OFFSET, SENDER_OFFSET, TARGET_OFFSET,
-    WORDS_SIZE,
-};
+use spec_rack::{DATA_OFFSET, MESSAGE_BLOCK_OFFSET, MESSAGE_DIRTY_OFFSET, MESSAGE_OWNER_OFFSET, MESSAGE_PLAIN_OFFSET, MESSAGE_WORDS_OFFSET, MESSAGE_ZERO_OFFSET, SENDER_OFFSET, TARGET_OFFSET, WORDS_SIZE};
 
 // Plain tokens in the low 16 bits and owners above them, so that one sum counts both: of the two bytes at `at`.
 pub fn token_sum(rec: &[u8], at: usize) -> u32

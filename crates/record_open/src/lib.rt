@@ -9,11 +9,7 @@ ghost use Rattle.spec_rack.specs.Opening.{open_reply, open_after};
 
 use base::numbers::put_u32;
 use record::sizes;
-use spec_rack::{
-    Answer, BLOCK_COUNT_OFFSET, BLOCK_SIZE, BLOCKS_OFFSET, BOARD_COUNT_OFFSET, CLAIMS_OFFSET,
-    CLAIMS_SIZE, FORMAT_MAGIC, FORMAT_OFFSET, LANES_SIZE, MESSAGE_COUNT_OFFSET, OWNER_OFFSET,
-    Reply, TOKEN_COUNT_OFFSET, VALID_OFFSET, WORDS_OFFSET, WORDS_SIZE,
-};
+use spec_rack::{Answer, BLOCK_COUNT_OFFSET, BLOCK_SIZE, BLOCKS_OFFSET, BOARD_COUNT_OFFSET, CLAIMS_OFFSET, CLAIMS_SIZE, FORMAT_MAGIC, FORMAT_OFFSET, LANES_SIZE, MESSAGE_COUNT_OFFSET, OWNER_OFFSET, TOKEN_COUNT_OFFSET, VALID_OFFSET, WORDS_OFFSET, WORDS_SIZE};
 use spec_wire::Refusal;
 
 // Makes `count` bytes from `at` on 0.
@@ -64,16 +60,16 @@ fn write_fresh(rec: &mut [u8], boards: u32, blocks: u32, tokens: u32)
 }
 
 // Opens a record of N boards, B blocks and T tokens to a block.
-pub fn open(rec: &mut [u8], boards: u32, blocks: u32, tokens: u32) -> Reply
+pub fn open(rec: &mut [u8], boards: u32, blocks: u32, tokens: u32) -> Result<Answer, Refusal>
     ensures reply { result ≡ open_reply boards blocks tokens rec.old }
     ensures buffer { rec.new ≡ open_after boards blocks tokens rec.old }
 {
     if !sizes::in_range(boards, blocks, tokens) {
-        return Reply::Refused(Refusal::Size);
+        return Err(Refusal::Size);
     }
     if rec.len() < BLOCKS_OFFSET + BLOCK_SIZE * (blocks as usize) {
-        return Reply::Refused(Refusal::ShortBuffer);
+        return Err(Refusal::ShortBuffer);
     }
     write_fresh(rec, boards, blocks, tokens);
-    Reply::Accepted(Answer::Done)
+    Ok(Answer::Done)
 }

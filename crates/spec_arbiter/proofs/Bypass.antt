@@ -12,7 +12,7 @@ use lib.Dec.{leb}
 use Rattle.spec_base.specs.Folds.{toℕ, all, count_below}
 use Rattle.spec_base.proofs.Tests.{either, same_or_not, lt_or_le, and_l, and_r, and_left, and_right}
 use Rattle.spec_base.proofs.Folds.{count_none, count_all, count_same, count_mono, count_more}
-use Rattle.spec_wire.specs.declared.Check.{Check}
+use Rattle.spec_wire.specs.Answers.{Check}
 use Rattle.spec_arbiter.specs.Boards.{board_room, member}
 use Rattle.spec_arbiter.specs.Claims.{Claims, waiting, barring, raised, lowered}
 use Rattle.spec_arbiter.specs.Bypass.{Move, mover, moved, settled, claims_after_move, claims_after, lowers_counted, lowers, board_moves, only, others, Bypass}

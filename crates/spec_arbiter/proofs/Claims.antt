@@ -14,8 +14,8 @@ use Rattle.spec_base.proofs.Tests.{either, differs, same_or_not, and_l, and_r, a
 use Rattle.spec_base.proofs.Folds.{below_at, below_of, all_at, all_replicate}
 use Rattle.spec_wire.specs.declared.Refusal.{Refusal}
 use Rattle.spec_wire.specs.declared.Refusal.TheVariants.{Waiting, Barred, NotWaiting}
-use Rattle.spec_wire.specs.declared.Check.{Check}
-use Rattle.spec_wire.specs.declared.Check.TheVariants.{Pass, Refuse}
+use Rattle.std.specs.Prelude.{Err}
+use Rattle.spec_wire.specs.Answers.{Check, no_refusal}
 use Rattle.spec_wire.specs.Refusals.{when◌refuse◌else◌}
 use Rattle.spec_arbiter.specs.Boards.{board_room, member, empty, insert, remove, subset, boards_only}
 use Rattle.spec_arbiter.specs.Claims.{Claims, waiting, barring, no_claims, unclaimed, active, raise_check, raised, lower_check, lowered, sound_barring, sound_claims}
@@ -24,47 +24,47 @@ use Rattle.spec_arbiter.proofs.Boards.{member_empty, insert_other, remove_same, 
 -- ---- the checks by cases
 
 module _ (c : Claims) (i : ℕ) where
-  pub raise_waiting : member (waiting c) i ≡ true → raise_check c i ≡ Refuse Waiting
+  pub raise_waiting : member (waiting c) i ≡ true → raise_check c i ≡ Err Waiting
   unfolding raise_check when◌refuse◌else◌
   raise_waiting w = simp w
 
-  pub raise_barred : member (waiting c) i ≡ false → (barring c i ≡ empty → ⊥) → raise_check c i ≡ Refuse Barred
+  pub raise_barred : member (waiting c) i ≡ false → (barring c i ≡ empty → ⊥) → raise_check c i ≡ Err Barred
   unfolding raise_check when◌refuse◌else◌
   raise_barred w b = simp (w, ne_eqb _ _ b)
 
-  pub raise_pass : member (waiting c) i ≡ false → barring c i ≡ empty → raise_check c i ≡ Pass
+  pub raise_pass : member (waiting c) i ≡ false → barring c i ≡ empty → raise_check c i ≡ no_refusal
   unfolding raise_check when◌refuse◌else◌
   raise_pass w b = simp (w, eq-eqb _ _ b)
 
-  pub lower_refused : member (waiting c) i ≡ false → lower_check c i ≡ Refuse NotWaiting
+  pub lower_refused : member (waiting c) i ≡ false → lower_check c i ≡ Err NotWaiting
   unfolding lower_check when◌refuse◌else◌
   lower_refused w = simp w
 
-  pub lower_pass : member (waiting c) i ≡ true → lower_check c i ≡ Pass
+  pub lower_pass : member (waiting c) i ≡ true → lower_check c i ≡ no_refusal
   unfolding lower_check when◌refuse◌else◌
   lower_pass w = simp w
 
   -- what holds of every refusal, and of a pass where there is one, holds of the check
-  pub raise_elim : (P : Check → Type 0) → ((r : Refusal) → P (Refuse r)) → (member (waiting c) i ≡ false → barring c i ≡ empty → P Pass)
+  pub raise_elim : (P : Check → Type 0) → ((r : Refusal) → P (Err r)) → (member (waiting c) i ≡ false → barring c i ≡ empty → P no_refusal)
       → P (raise_check c i)
   raise_elim P no_change change =
       ⊎_elim (λ w. rw (raise_waiting w) (no_change Waiting))
       (λ w. ⊎_elim (λ b. rw (raise_pass w b) (change w b)) (λ b. rw (raise_barred w b) (no_change Barred)) (same_or_not (barring c i) empty))
       (either (member (waiting c) i))
 
-  pub lower_elim : (P : Check → Type 0) → ((r : Refusal) → P (Refuse r)) → (member (waiting c) i ≡ true → P Pass) → P (lower_check c i)
+  pub lower_elim : (P : Check → Type 0) → ((r : Refusal) → P (Err r)) → (member (waiting c) i ≡ true → P no_refusal) → P (lower_check c i)
   lower_elim P no_change change =
       ⊎_elim (λ w. rw (lower_pass w) (change w)) (λ w. rw (lower_refused w) (no_change NotWaiting)) (either (member (waiting c) i))
 
   -- what a pass says
-  pub raise_free : raise_check c i ≡ Pass → (member (waiting c) i ≡ false) × (barring c i ≡ empty)
+  pub raise_free : raise_check c i ≡ no_refusal → (member (waiting c) i ≡ false) × (barring c i ≡ empty)
   raise_free =
-      raise_elim (λ k. k ≡ Pass → (member (waiting c) i ≡ false) × (barring c i ≡ empty))
+      raise_elim (λ k. k ≡ no_refusal → (member (waiting c) i ≡ false) × (barring c i ≡ empty))
       (λ r e. let z : ◌≡◌ {A = ℕ} 0 1 = cc in absurd (omega arith)) (λ w b e. (w, b))
 
-  pub lower_waits : lower_check c i ≡ Pass → member (waiting c) i ≡ true
+  pub lower_waits : lower_check c i ≡ no_refusal → member (waiting c) i ≡ true
   lower_waits =
-      lower_elim (λ k. k ≡ Pass → member (waiting c) i ≡ true)
+      lower_elim (λ k. k ≡ no_refusal → member (waiting c) i ≡ true)
       (λ r e. let z : ◌≡◌ {A = ℕ} 0 1 = cc in absurd (omega arith)) (λ w e. w)
 
 -- ---- the sets after a change
@@ -169,7 +169,7 @@ none_sound {n} =
           };
     }
 
-pub raised_sound : {n : ℕ} {c : Claims} {i : ℕ} → SoundClaims n c → 1 ≤ i → i ≤ n → n < board_room → raise_check c i ≡ Pass → SoundClaims n (raised c i)
+pub raised_sound : {n : ℕ} {c : Claims} {i : ℕ} → SoundClaims n c → 1 ≤ i → i ≤ n → n < board_room → raise_check c i ≡ no_refusal → SoundClaims n (raised c i)
 raised_sound {n} {c} {i} s low high fits pass =
     record {
       width = length_raised c i ∙ s.width;

@@ -1,8 +1,7 @@
 -- Document 01, "Steps", and document 02, "No. 10": lists of raises and lowers on one block, and that nobody is passed twice.
-use Rattle.std.specs.Prelude.{◌≡◌, ℕ, ◌+◌, ◌-◌, ◌≤◌, ◌<◌, Bool, true, not, ◌&&◌, List, [], ◌∷◌, eqb, leb}
+use Rattle.std.specs.Prelude.{◌≡◌, ℕ, ◌+◌, ◌-◌, ◌≤◌, ◌<◌, Bool, true, not, ◌&&◌, List, [], ◌∷◌, eqb, leb, Ok, Err}
 use Rattle.spec_base.specs.Folds.{toℕ, all}
-use Rattle.spec_wire.specs.declared.Check.{Check}
-use Rattle.spec_wire.specs.declared.Check.TheVariants.{Pass, Refuse}
+use Rattle.spec_wire.specs.Answers.{Check, no_refusal}
 use Rattle.spec_arbiter.specs.Boards.{board_room}
 use Rattle.spec_arbiter.specs.Claims.{Claims, raise_check, raised, lower_check, lowered, sound_claims}
 
@@ -24,8 +23,8 @@ moved c (lower i) = lowered c i
 
 -- a refused move changes nothing
 abbrev pub settled : Check → Claims → Claims → Claims
-settled Pass before claims_after = claims_after
-settled (Refuse r) before claims_after = before
+settled (Ok _) before claims_after = claims_after
+settled (Err r) before claims_after = before
 
 abbrev pub claims_after_move : Claims → Move → Claims
 claims_after_move c m = settled (move_check c m) c (moved c m)
@@ -37,8 +36,8 @@ claims_after c (m ∷ ms) = claims_after (claims_after_move c m) ms
 
 -- 1 for an accepted lower by a board that passes the test, and 0 for any other move
 abbrev pub lowers_counted : (ℕ → Bool) → Move → Check → ℕ
-lowers_counted test (lower i) Pass = toℕ (test i)
-lowers_counted test (lower i) (Refuse r) = 0
+lowers_counted test (lower i) (Ok _) = toℕ (test i)
+lowers_counted test (lower i) (Err r) = 0
 lowers_counted test (raise i) k = 0
 
 -- the accepted lowers by boards that pass the test, where the moves are made in order from the claims c
@@ -66,7 +65,7 @@ pub record Waits (n p : ℕ) (start : Claims) (before between : List Move) (c : 
   pub reached : c ≡ claims_after start before
   pub low : 1 ≤ p
   pub high : p ≤ n
-  pub accepted : raise_check c p ≡ Pass
+  pub accepted : raise_check c p ≡ no_refusal
   pub moves_between : board_moves n between ≡ true
   pub waits : lowers (only p) (raised c p) between ≡ 0
 

@@ -2,8 +2,7 @@
 use Rattle.std.specs.Prelude.{ℕ, suc, Bool, not, ◌&&◌, List, map, eqb, length, get_or, set, replicate}
 use Rattle.spec_base.specs.Folds.{all_below, implies}
 use Rattle.spec_wire.specs.declared.Refusal.TheVariants.{Waiting, Barred, NotWaiting}
-use Rattle.spec_wire.specs.declared.Check.{Check}
-use Rattle.spec_wire.specs.declared.Check.TheVariants.{Pass}
+use Rattle.spec_wire.specs.Answers.{Check, no_refusal}
 use Rattle.spec_wire.specs.Refusals.{when◌refuse◌else◌}
 use Rattle.spec_arbiter.specs.Boards.{member, empty, insert, remove, subset, boards_only, lowest}
 
@@ -34,7 +33,7 @@ unfoldable pub raise_check : Claims → ℕ → Check
 raise_check c i =
     when member (waiting c) i refuse Waiting else
     when not (eqb (barring c i) empty) refuse Barred else
-    Pass
+    no_refusal
 
 unfoldable pub raised : Claims → ℕ → Claims
 raised c i = set c 0 (insert (waiting c) i)
@@ -44,7 +43,7 @@ raised c i = set c 0 (insert (waiting c) i)
 unfoldable pub lower_check : Claims → ℕ → Check
 lower_check c i =
     when not (member (waiting c) i) refuse NotWaiting else
-    Pass
+    no_refusal
 
 unfoldable pub lowered : Claims → ℕ → Claims
 lowered c i = set (map (λ (s : ℕ). remove s i) c) i (remove (waiting c) i)

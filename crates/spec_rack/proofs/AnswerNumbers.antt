@@ -11,42 +11,40 @@ use Rattle.spec_wire.proofs.RefusalTable.{number_known}
 use Rattle.spec_wire.specs.AnswerNumbers.{component_part, block_part, number_part}
 use Rattle.spec_wire.proofs.AnswerNumbers.{packed_kind, packed_component, packed_block, plain_kind, plain_number, refusal_kind, refusal_told}
 use Rattle.spec_rack.specs.declared.Answer.TheVariants.{Done, Word, Served}
-use Rattle.spec_rack.specs.declared.Reply.{Reply}
-use Rattle.spec_rack.specs.declared.Reply.TheVariants.{Accepted, Refused}
+use Rattle.std.specs.Prelude.{Ok, Err}
+use Rattle.spec_rack.specs.Replies.{Lettered, Reply}
 use Rattle.spec_rack.specs.declared.Letter.TheVariants.{M, O, E, S, I}
-use Rattle.spec_rack.specs.declared.Lettered.{Lettered}
-use Rattle.spec_rack.specs.declared.Lettered.TheVariants as Lettered
 use Rattle.spec_rack.specs.Results.{word, served, packed_reply, packed_letter}
 use Rattle.spec_rack.specs.AnswerNumbers.{decoded_reply, unpacked_reply, decoded_letter, unpacked_letter, reply_fits, AnswerNumbers}
 
 pub reply_back : (r : Reply) → reply_fits r ≡ true → unpacked_reply (packed_reply r) ≡ r
-reply_back (Accepted Done) h = refl
-reply_back (Accepted (Word w)) h =
+reply_back (Ok Done) h = refl
+reply_back (Ok (Word w)) h =
     let small : w < 0x1_0000_0000 = ltb-true w 0x1_0000_0000 h in
     ap (λ (k : ℕ). decoded_reply k (component_part (word w)) (block_part (word w)) (number_part (word w))) (plain_kind 2 w small)
-    ∙ ap (λ (n : ℕ). Accepted (Word n)) (plain_number 2 w small)
-reply_back (Accepted (Served c b)) h =
+    ∙ ap (λ (n : ℕ). Ok (Word n)) (plain_number 2 w small)
+reply_back (Ok (Served c b)) h =
     let in8 : c < 0x100 = ltb-true c 0x100 (and_l (ltb c 0x100) (ltb b 0x1_0000) h) in
     let in16 : b < 0x1_0000 = ltb-true b 0x1_0000 (and_r (ltb c 0x100) (ltb b 0x1_0000) h) in
     ap (λ (k : ℕ). decoded_reply k (component_part (served c b)) (block_part (served c b)) (number_part (served c b))) (packed_kind 4 c b 0 in8 in16 (omega arith))
-    ∙ (λ i. Accepted (Served (packed_component 4 c b 0 in8 in16 (omega arith) i) (packed_block 4 c b 0 in8 in16 (omega arith) i)))
-reply_back (Refused r) h =
-    ap (λ (k : ℕ). decoded_reply k (component_part (refused r)) (block_part (refused r)) (number_part (refused r))) (refusal_kind r) ∙ ap Refused (refusal_told r)
+    ∙ (λ i. Ok (Served (packed_component 4 c b 0 in8 in16 (omega arith) i) (packed_block 4 c b 0 in8 in16 (omega arith) i)))
+reply_back (Err r) h =
+    ap (λ (k : ℕ). decoded_reply k (component_part (refused r)) (block_part (refused r)) (number_part (refused r))) (refusal_kind r) ∙ ap Err (refusal_told r)
 
 reply_64 : (r : Reply) → reply_fits r ≡ true → packed_reply r < 0x1_0000_0000_0000_0000
-reply_64 (Accepted Done) h = omega arith
-reply_64 (Accepted (Word w)) h = omega (arith, ltb-true w 0x1_0000_0000 h)
-reply_64 (Accepted (Served c b)) h =
+reply_64 (Ok Done) h = omega arith
+reply_64 (Ok (Word w)) h = omega (arith, ltb-true w 0x1_0000_0000 h)
+reply_64 (Ok (Served c b)) h =
     omega (arith, ltb-true c 0x100 (and_l (ltb c 0x100) (ltb b 0x1_0000) h), ltb-true b 0x1_0000 (and_r (ltb c 0x100) (ltb b 0x1_0000) h))
-reply_64 (Refused r) h = omega (arith, number_known r)
+reply_64 (Err r) h = omega (arith, number_known r)
 
 pub letter_back : (l : Lettered) → unpacked_letter (packed_letter l) ≡ l
-letter_back (Lettered.Letter M) = refl
-letter_back (Lettered.Letter O) = refl
-letter_back (Lettered.Letter E) = refl
-letter_back (Lettered.Letter S) = refl
-letter_back (Lettered.Letter I) = refl
-letter_back (Lettered.Refused r) = ap (λ (k : ℕ). decoded_letter k (number_part (refused r))) (refusal_kind r) ∙ ap Lettered.Refused (refusal_told r)
+letter_back (Ok M) = refl
+letter_back (Ok O) = refl
+letter_back (Ok E) = refl
+letter_back (Ok S) = refl
+letter_back (Ok I) = refl
+letter_back (Err r) = ap (λ (k : ℕ). decoded_letter k (number_part (refused r))) (refusal_kind r) ∙ ap Err (refusal_told r)
 
 pub answer_numbers : AnswerNumbers
 answer_numbers =

@@ -11,8 +11,8 @@ use Rattle.spec_base.specs.Number.{Bytes}
 use Rattle.spec_wire.specs.declared.Refusal.TheVariants.{Unsound}
 use Rattle.spec_wire.specs.declared.Step.{Step}
 use Rattle.spec_wire.specs.declared.Step.TheVariants.{Load, Store, Send, Deliver, Raise, Lower, Forward}
-use Rattle.spec_wire.specs.declared.Reading.{Reading}
-use Rattle.spec_wire.specs.declared.Reading.TheVariants.{Step as Read, Refused as NoStep}
+use Rattle.std.specs.Prelude.{Ok, Err}
+use Rattle.spec_wire.specs.Answers.{Reading}
 use Rattle.spec_wire.specs.Kinds.{kind_of, field_array, in_bounds, step_in_bounds}
 use Rattle.spec_wire.specs.Reader.{read_record}
 use Rattle.spec_wire.proofs.RoundTrip.{read_fits}
@@ -55,17 +55,17 @@ goes s live t fits = go (rules (get s) t) (step_keeps (get s) live.sound t)
           rack = put_is s live r k.sound (k.fits fits live.fits) k.count;
         }
 
-pub outcome_read : (s : List ℕ) → Live s → (t : Step) → outcome (Read t) s ≡ rules (get s) t
+pub outcome_read : (s : List ℕ) → Live s → (t : Step) → outcome (Ok t) s ≡ rules (get s) t
 outcome_read s live t = rw (sound_of s live) refl
 
-pub outcome_unsound : (s : List ℕ) → sound_bytes s ≡ false → (t : Step) → outcome (Read t) s ≡ refused Unsound
+pub outcome_unsound : (s : List ℕ) → sound_bytes s ≡ false → (t : Step) → outcome (Ok t) s ≡ refused Unsound
 outcome_unsound s bad t = rw bad refl
 
 -- a step leaves soundness as it was
 module _ (s : List ℕ) (bytes : Bytes s) where
-  outcome_kept : (k : Reading) → ((t : Step) → k ≡ Read t → StepFits t) → sound_bytes (buffer_after_outcome s (outcome k s)) ≡ sound_bytes s
-  outcome_kept (NoStep n) f = refl
-  outcome_kept (Read t) f =
+  outcome_kept : (k : Reading) → ((t : Step) → k ≡ Ok t → StepFits t) → sound_bytes (buffer_after_outcome s (outcome k s)) ≡ sound_bytes s
+  outcome_kept (Err n) f = refl
+  outcome_kept (Ok t) f =
       ⊎_elim
       (λ (h : sound_bytes s ≡ true). let live = live_of s bytes h in
       ap (λ (o : Outcome). sound_bytes (buffer_after_outcome s o)) (outcome_read s live t) ∙ sound_of _ (goes s live t (f t refl)).live ∙ sym h)
@@ -99,7 +99,7 @@ runs (b ∷ bs) s live =
     let f = by_reading (λ q l. runs bs q l) (read_record b) (λ t e. step_fits t (read_fits b t e)) in
     record { live = f.live; rack = f.rack; answers = f.answers; accesses = f.accesses }
   where
-    by_step : ((q : List ℕ) → Live q → Runs q bs) → (t : Step) → Goes s (rules (get s) t) → First s (Read t) (rules (get s) t) bs
+    by_step : ((q : List ℕ) → Live q → Runs q bs) → (t : Step) → Goes s (rules (get s) t) → First s (Ok t) (rules (get s) t) bs
     by_step rest t g =
         let o = rules (get s) t in
         let i = rest (buffer_after_outcome s o) g.live in
@@ -110,9 +110,9 @@ runs (b ∷ bs) s live =
           accesses = ap (λ (l : List Access). handed (reply o) (access_of t) ++ l) (i.accesses ∙ ap (λ (r : Rack). rack_accesses r (steps_of bs)) g.rack);
         }
 
-    by_reading : ((q : List ℕ) → Live q → Runs q bs) → (k : Reading) → ((t : Step) → k ≡ Read t → StepFits t) → First s k (outcome k s) bs
-    by_reading rest (NoStep n) f =
+    by_reading : ((q : List ℕ) → Live q → Runs q bs) → (k : Reading) → ((t : Step) → k ≡ Ok t → StepFits t) → First s k (outcome k s) bs
+    by_reading rest (Err n) f =
         let i = rest s live in
         record { live = i.live; rack = i.rack; answers = i.answers; accesses = i.accesses }
-    by_reading rest (Read t) f =
-        subst (λ (o : Outcome). First s (Read t) o bs) (sym (outcome_read s live t)) (by_step rest t (goes s live t (f t refl)))
+    by_reading rest (Ok t) f =
+        subst (λ (o : Outcome). First s (Ok t) o bs) (sym (outcome_read s live t)) (by_step rest t (goes s live t (f t refl)))

@@ -10,15 +10,12 @@ use Rattle.spec_base.specs.Number.{Bytes}
 use Rattle.spec_base.proofs.Tests.{either}
 use Rattle.spec_wire.specs.declared.Refusal.{Refusal}
 use Rattle.spec_wire.specs.declared.Refusal.TheVariants.{Unsound}
-use Rattle.spec_wire.specs.declared.Check.{Check}
-use Rattle.spec_wire.specs.declared.Check.TheVariants.{Pass, Refuse}
+use Rattle.std.specs.Prelude.{Ok, Err}
+use Rattle.spec_wire.specs.Answers.{Check, Reading}
 use Rattle.spec_wire.specs.declared.Step.{Step}
-use Rattle.spec_wire.specs.declared.Reading.{Reading}
-use Rattle.spec_wire.specs.declared.Reading.TheVariants.{Step as Read, Refused as NoStep}
 use Rattle.spec_wire.specs.Reader.{read_record}
 use Rattle.spec_wire.proofs.RoundTrip.{read_fits}
 use Rattle.spec_rack.specs.declared.Answer.{Answer}
-use Rattle.spec_rack.specs.declared.Reply.TheVariants.{Accepted, Refused}
 use Rattle.spec_rack.specs.Rack.{Rack}
 use Rattle.spec_rack.specs.Rules.{Outcome, refused, accepted, rules, reply, reply_of}
 use Rattle.spec_rack.proofs.StepPreservation.{Kept, Keeps, StepFits, step_keeps}
@@ -32,12 +29,11 @@ use Rattle.spec_rack.proofs.OpeningLaws.{passes, open_refused, open_get, open_le
 use Rattle.spec_rack.specs.Entries.{buffer_after_outcome, outcome, step_reply, step_after}
 use Rattle.spec_rack.specs.Lists.{run_all, replies_of, after, replies, frames_from}
 use Rattle.spec_rack.proofs.ByteLists.{step_fits, outcome_read, outcome_unsound, runs}
-use Rattle.spec_rack.specs.declared.Lettered.TheVariants as Lettered
 use Rattle.spec_rack.specs.Letter.{letter, letter_reply}
 use Rattle.spec_rack.specs.Results.{packed_reply}
 use Rattle.spec_rack.specs.Effects.{EveryRun, Steady, StepLeaves, EveryStep, EveryList, unsound_reply, EveryUnsound, EveryOpening}
 
-not_both : {A : Type 0} {a : Answer} {n : Refusal} → Accepted a ≡ Refused n → A
+not_both : {A : Type 0} {a : Answer} {n : Refusal} → Ok a ≡ Err n → A
 not_both e = let z : ◌≡◌ {A = ℕ} 0 1 = cc in absurd (omega arith)
 
 -- ---- a buffer that stays, and one change after another
@@ -63,7 +59,7 @@ steady_then s s' s'' p q =
 -- ---- a step
 
 module _ (s bytes : List ℕ) where
-  unchanged : (n : Refusal) → step_reply s bytes ≡ Refused n → step_after s bytes ≡ s → StepLeaves s bytes
+  unchanged : (n : Refusal) → step_reply s bytes ≡ Err n → step_after s bytes ≡ s → StepLeaves s bytes
   unchanged n told e =
       record {
         steady = subst (Steady s) (sym e) (steady_same s);
@@ -72,7 +68,7 @@ module _ (s bytes : List ℕ) where
       }
 
   -- an accepted step writes the rack that it leaves
-  module _ (live : Live s) (t : Step) (read : read_record bytes ≡ Read t) (a : Answer) (r : Rack) (ruled : rules (get s) t ≡ accepted a r) (k : Kept (get s) t a r) (fit : StepFits t) where
+  module _ (live : Live s) (t : Step) (read : read_record bytes ≡ Ok t) (a : Answer) (r : Rack) (ruled : rules (get s) t ≡ accepted a r) (k : Kept (get s) t a r) (fit : StepFits t) where
     is : get (put r s) ≡ r
     is = put_is s live r k.sound (k.fits fit live.fits) k.count
 
@@ -90,7 +86,7 @@ module _ (s bytes : List ℕ) where
           sound = sound_of (put r s) live_after ∙ sym (sound_of s live);
         }
 
-    written : step_reply s bytes ≡ Accepted a → step_after s bytes ≡ put r s → StepLeaves s bytes
+    written : step_reply s bytes ≡ Ok a → step_after s bytes ≡ put r s → StepLeaves s bytes
     written told e =
         record {
           steady = subst (Steady s) (sym e) put_steady;
@@ -100,15 +96,15 @@ module _ (s bytes : List ℕ) where
           if_refused = λ n h. not_both (sym told ∙ h);
         }
 
-  by_outcome : (live : Live s) (t : Step) → read_record bytes ≡ Read t → StepFits t → (o : Outcome) → rules (get s) t ≡ o → Keeps (Kept (get s) t) o
+  by_outcome : (live : Live s) (t : Step) → read_record bytes ≡ Ok t → StepFits t → (o : Outcome) → rules (get s) t ≡ o → Keeps (Kept (get s) t) o
       → step_reply s bytes ≡ reply o → step_after s bytes ≡ buffer_after_outcome s o → StepLeaves s bytes
   by_outcome live t read fit (refused n) ruled k told e = unchanged n told e
   by_outcome live t read fit (accepted a r) ruled k told e = written live t read a r ruled k fit told e
 
   by_reading : Bytes s → (k : Reading) → read_record bytes ≡ k → StepLeaves s bytes
   unfolding step_reply step_after
-  by_reading h (NoStep n) e = unchanged n (ap (λ (k : Reading). reply (outcome k s)) e) (ap (λ (k : Reading). buffer_after_outcome s (outcome k s)) e)
-  by_reading h (Read t) e =
+  by_reading h (Err n) e = unchanged n (ap (λ (k : Reading). reply (outcome k s)) e) (ap (λ (k : Reading). buffer_after_outcome s (outcome k s)) e)
+  by_reading h (Ok t) e =
       ⊎_elim
       (λ (ok : sound_bytes s ≡ true). let live = live_of s h ok in
       by_outcome live t e (step_fits t (read_fits bytes t e)) (rules (get s) t) refl (step_keeps (get s) live.sound t)
@@ -121,8 +117,8 @@ module _ (s bytes : List ℕ) where
 
   -- on a buffer without a sound record
   by_unsound : sound_bytes s ≡ false → (k : Reading) → (reply (outcome k s) ≡ unsound_reply k) × (buffer_after_outcome s (outcome k s) ≡ s)
-  by_unsound bad (NoStep n) = (refl, refl)
-  by_unsound bad (Read t) = (ap reply (outcome_unsound s bad t), ap (buffer_after_outcome s) (outcome_unsound s bad t))
+  by_unsound bad (Err n) = (refl, refl)
+  by_unsound bad (Ok t) = (ap reply (outcome_unsound s bad t), ap (buffer_after_outcome s) (outcome_unsound s bad t))
 
   step_unsound : sound_bytes s ≡ false → (step_reply s bytes ≡ unsound_reply (read_record bytes)) × (step_after s bytes ≡ s)
   unfolding step_reply step_after
@@ -153,7 +149,7 @@ every_unsound s bad =
     record {
       step = λ bytes. step_unsound s bytes bad;
       list = λ steps. list_unsound steps s bad;
-      letter = λ c b. ap (λ (u : Bool). cond u (letter (get s) c b) (Lettered.Refused Unsound)) bad;
+      letter = λ c b. ap (λ (u : Bool). cond u (letter (get s) c b) (Err Unsound)) bad;
     }
 
 pub every_list : EveryList
@@ -180,9 +176,9 @@ every_run rec list at out made rec' at' out' h ran =
 
 -- ---- an opening
 
-refuses : (k : Check) (r : Refusal) → reply_of k ≡ Refused r → k ≡ Refuse r
-refuses Pass r e = not_both e
-refuses (Refuse n) r e = cc
+refuses : (k : Check) (r : Refusal) → reply_of k ≡ Err r → k ≡ Err r
+refuses (Ok _) r e = not_both e
+refuses (Err n) r e = cc
 
 pub every_opening : EveryOpening
 unfolding open_reply

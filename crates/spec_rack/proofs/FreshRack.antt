@@ -10,7 +10,7 @@ use Rattle.spec_base.specs.Folds.{sum, All}
 use Rattle.spec_base.proofs.Tests.{differs, and_l, and_r}
 use Rattle.spec_base.proofs.Folds.{all_replicate, sum_replicate}
 use Rattle.spec_wire.specs.declared.Refusal.TheVariants.{Size}
-use Rattle.spec_wire.specs.declared.Check.TheVariants.{Pass}
+use Rattle.spec_wire.specs.Answers.{no_refusal}
 use Rattle.spec_wire.specs.Refusals.{when◌refuse◌else◌}
 use Rattle.spec_arbiter.proofs.Claims.{none_sound}
 use Rattle.spec_rack.specs.declared.Message.{Message}
@@ -28,7 +28,7 @@ pub opened : (n b t : ℕ) (r : Rack) → opening n b t ≡ accepted Done r → 
 unfolding opening opening_check when◌refuse◌else◌
 opened n b t r = go (sizes n b t)
   where
-    go : (u : Bool) → settled (when not u refuse Size else Pass) Done (fresh n b t) ≡ accepted Done r → (u ≡ true) × (fresh n b t ≡ r)
+    go : (u : Bool) → settled (when not u refuse Size else no_refusal) Done (fresh n b t) ≡ accepted Done r → (u ≡ true) × (fresh n b t ≡ r)
     go true e = (refl, cc)
     go false e = (cc, cc)
 

@@ -6,12 +6,12 @@ use mathlib.Core.Bool.{false}
 use lib.ListN.{length}
 use borrow.Author.Tests.{ltb-false}
 use Rattle.spec_base.proofs.Tests.{or_l, or_r}
-use Rattle.spec_wire.specs.declared.Check.{Check}
+use Rattle.spec_wire.specs.Answers.{Check}
 use Rattle.spec_wire.specs.declared.Step.{Step}
 use Rattle.spec_wire.specs.declared.Step.TheVariants.{Load, Store, Send, Deliver, Raise, Lower, Forward}
 use Rattle.spec_arbiter.specs.Claims.{raise_check, lower_check}
 use Rattle.spec_arbiter.proofs.Claims.{active_known}
-use Rattle.spec_rack.specs.Rack.{Rack, block_at, claims_at, cell_at, message_at}
+use Rattle.spec_rack.specs.Rack.{Rack, claims_at, cell_at}
 use Rattle.spec_rack.specs.Rules.{check, off_rack, past_words}
 use Rattle.spec_rack.specs.InRange.{OnRack, InRange, AcceptedInRange}
 use Rattle.spec_rack.proofs.SoundnessFacts.{Sound, sound_facts}

@@ -10,17 +10,14 @@ use borrow.Author.Tests.{ltb-false, eqb-false, leb-true}
 use Rattle.spec_base.proofs.Tests.{differs, and_l, and_r, or_l}
 use Rattle.spec_base.proofs.Folds.{sum_at, sum_two}
 use Rattle.spec_wire.specs.declared.Refusal.TheVariants.{OffRack, Home, NoToken, NoData, Short}
-use Rattle.spec_wire.specs.declared.Check.{Check}
-use Rattle.spec_wire.specs.declared.Check.TheVariants.{Pass, Refuse}
+use Rattle.std.specs.Prelude.{Ok, Err}
+use Rattle.spec_rack.specs.Replies.{Reply}
+use Rattle.spec_wire.specs.Answers.{Check, Reading, no_refusal}
 use Rattle.spec_wire.specs.Refusals.{when◌refuse◌else◌}
 use Rattle.spec_wire.specs.declared.Step.{Step}
 use Rattle.spec_wire.specs.declared.Step.TheVariants.{Load, Store}
-use Rattle.spec_wire.specs.declared.Reading.{Reading}
-use Rattle.spec_wire.specs.declared.Reading.TheVariants.{Step as Read}
 use Rattle.spec_wire.specs.Reader.{read_record}
 use Rattle.spec_rack.specs.declared.Answer.{Answer}
-use Rattle.spec_rack.specs.declared.Reply.{Reply}
-use Rattle.spec_rack.specs.declared.Reply.TheVariants.{Accepted}
 use Rattle.spec_rack.specs.Rack.{Block, Rack, no_cell, no_block, no_message, is_home, fresh, block_at, cell_at, held, carried, in_flight}
 use Rattle.spec_rack.specs.Soundness.{sizes}
 use Rattle.spec_rack.specs.Rules.{settled, check, rules, off_rack, past_words, reply}
@@ -40,18 +37,18 @@ use Rattle.spec_rack.proofs.Coherence.{from_opening, coherence}
 
 -- ---- what an accepted load and an accepted store are past
 
-accepted_past : (k : Check) (x a : Answer) (r : Rack) → reply (settled k x r) ≡ Accepted a → k ≡ Pass
-accepted_past Pass x a r e = refl
-accepted_past (Refuse n) x a r e = cc
+accepted_past : (k : Check) (x a : Answer) (r : Rack) → reply (settled k x r) ≡ Ok a → k ≡ no_refusal
+accepted_past (Ok _) x a r e = refl
+accepted_past (Err n) x a r e = cc
 
-load_past : (off none stale : Bool) → (when off refuse OffRack else when none refuse NoToken else when stale refuse NoData else Pass) ≡ Pass
+load_past : (off none stale : Bool) → (when off refuse OffRack else when none refuse NoToken else when stale refuse NoData else no_refusal) ≡ no_refusal
     → (off ≡ false) × (none ≡ false)
 unfolding when◌refuse◌else◌
 load_past true none stale e = (cc, cc)
 load_past false true stale e = (cc, cc)
 load_past false false stale e = (refl, refl)
 
-store_past : (off home short : Bool) → (when off refuse OffRack else when home refuse Home else when short refuse Short else Pass) ≡ Pass
+store_past : (off home short : Bool) → (when off refuse OffRack else when home refuse Home else when short refuse Short else no_refusal) ≡ no_refusal
     → (off ≡ false) × (short ≡ false)
 unfolding when◌refuse◌else◌
 store_past true home short e = (cc, cc)
@@ -65,7 +62,7 @@ record Holder (r : Rack) (c b least : ℕ) : Type 0 where
   tokens : least ≤ held (cell_at r b c)
 
 module _ (r : Rack) (c b w : ℕ) where
-  reader : (a : Answer) → ruled_reply r (Load c b w) ≡ Accepted a → Holder r c b 1
+  reader : (a : Answer) → ruled_reply r (Load c b w) ≡ Ok a → Holder r c b 1
   unfolding rules check
   reader a e =
       let p = load_past (off_rack r c b || past_words w) (eqb (held (cell_at r b c)) 0) (not (cell_at r b c).valid) (accepted_past _ _ a _ e) in
@@ -75,7 +72,7 @@ module _ (r : Rack) (c b w : ℕ) where
       some zero ne = absurd (ne refl)
       some (suc k) ne = omega arith
 
-  writer : (v : ℕ) (a : Answer) → ruled_reply r (Store c b w v) ≡ Accepted a → Holder r c b r.tokens
+  writer : (v : ℕ) (a : Answer) → ruled_reply r (Store c b w v) ≡ Ok a → Holder r c b r.tokens
   unfolding rules check
   writer v a e =
       let p = store_past (off_rack r c b || past_words w) (is_home c) (ltb (held (cell_at r b c)) r.tokens) (accepted_past _ _ a _ e) in
@@ -167,14 +164,14 @@ token_conservation n b t r ss e = (rack_coherence n b t r ss e).1
 
 -- ---- and on a record that a list of byte strings leaves
 
-live_reply : (s : List ℕ) → Live s → (bytes : List ℕ) (t : Step) → read_record bytes ≡ Read t → step_reply s bytes ≡ ruled_reply (get s) t
+live_reply : (s : List ℕ) → Live s → (bytes : List ℕ) (t : Step) → read_record bytes ≡ Ok t → step_reply s bytes ≡ ruled_reply (get s) t
 unfolding step_reply
 live_reply s live bytes t e = ap (λ (k : Reading). reply (outcome k s)) e ∙ ap reply (outcome_read s live t)
 
 pub single_writer_multiple_readers_bytes : SingleWriterMultipleReadersBytes
 single_writer_multiple_readers_bytes n b t s steps bytes e =
     let live = (from_opening n b t s steps bytes e).live in
-    single_writer step_reply (λ item step. read_record item ≡ Read step) get _ (live_reply _ live) live.sound
+    single_writer step_reply (λ item step. read_record item ≡ Ok step) get _ (live_reply _ live) live.sound
 
 pub data_value_bytes : DataValueBytes
 data_value_bytes n b t s steps bytes e =

@@ -10,12 +10,11 @@ use lib.ListN.{length, drop, length-replicate}
 use Rattle.spec_base.proofs.Tests.{either, lt_or_le, and_l, and_r, and_of, not_of_false, not_of_true}
 use Rattle.spec_wire.specs.declared.Refusal.{Refusal}
 use Rattle.spec_wire.specs.declared.Refusal.TheVariants.{Size, ShortBuffer}
-use Rattle.spec_wire.specs.declared.Check.{Check}
-use Rattle.spec_wire.specs.declared.Check.TheVariants.{Pass, Refuse}
+use Rattle.std.specs.Prelude.{Ok, Err}
+use Rattle.spec_wire.specs.Answers.{Check, no_refusal}
 use Rattle.spec_wire.proofs.RefusalTable.{stops, goes}
 use Rattle.spec_base.specs.Number.{Bytes}
 use Rattle.spec_rack.specs.declared.Answer.TheVariants.{Done}
-use Rattle.spec_rack.specs.declared.Reply.TheVariants.{Accepted, Refused}
 use Rattle.spec_rack.specs.Rack.{fresh_block, fresh}
 use Rattle.spec_rack.specs.Soundness.{sizes, sound_bytes, well_formed_record}
 use Rattle.spec_rack.proofs.FreshRack.{fresh_sound, opened_sound, fresh_fits as words_fit_lem}
@@ -51,22 +50,22 @@ in_range_lem n b t h = (
 )
 
 module _ (n b t l : ℕ) where
-  pub open_size : sizes n b t ≡ false → Refuse Size ≡ open_check n b t l
+  pub open_size : sizes n b t ≡ false → Err Size ≡ open_check n b t l
   unfolding open_check
   open_size h = stops _ _ _ (not_of_false (sizes n b t) h)
 
   module _ (h : sizes n b t ≡ true) where
-    pub open_short : l < record_length b → Refuse ShortBuffer ≡ open_check n b t l
+    pub open_short : l < record_length b → Err ShortBuffer ≡ open_check n b t l
     unfolding open_check
     open_short k = goes _ _ _ _ (not_of_true (sizes n b t) h) (stops _ _ _ (lt-ltb l (record_length b) k))
 
-    pub open_pass : record_length b ≤ l → Pass ≡ open_check n b t l
+    pub open_pass : record_length b ≤ l → no_refusal ≡ open_check n b t l
     unfolding open_check
     open_pass k = goes _ _ _ _ (not_of_true (sizes n b t) h) (goes _ _ _ _ (le-ltb l (record_length b) k) refl)
 
-  pub sized : open_check n b t l ≡ Pass → Sized n b t l
+  pub sized : open_check n b t l ≡ no_refusal → Sized n b t l
   sized e =
-      let h : sizes n b t ≡ true = ⊎_elim (λ k. k) (λ k. let z : Refuse Size ≡ Pass = open_size k ∙ e in cc) (either (sizes n b t)) in
+      let h : sizes n b t ≡ true = ⊎_elim (λ k. k) (λ k. let z : Err Size ≡ no_refusal = open_size k ∙ e in cc) (either (sizes n b t)) in
       let r = in_range_lem n b t h in
       record {
         range = h;
@@ -74,13 +73,13 @@ module _ (n b t l : ℕ) where
         blocks = r.3;
         tokens = r.5;
         some = omega arith;
-        room = ⊎_elim (λ k. let z : Refuse ShortBuffer ≡ Pass = open_short h k ∙ e in let q : ◌≡◌ {A = ℕ} 0 1 = cc in absurd (omega arith)) (λ k. k) (lt_or_le l (record_length b));
+        room = ⊎_elim (λ k. let z : Err ShortBuffer ≡ no_refusal = open_short h k ∙ e in let q : ◌≡◌ {A = ℕ} 0 1 = cc in absurd (omega arith)) (λ k. k) (lt_or_le l (record_length b));
       }
 
 -- an accepted opening has passed its check
-pub passes : (k : Check) → reply_of k ≡ Accepted Done → k ≡ Pass
-passes Pass e = refl
-passes (Refuse n) e = cc
+pub passes : (k : Check) → reply_of k ≡ Ok Done → k ≡ no_refusal
+passes (Ok _) e = refl
+passes (Err n) e = cc
 
 -- ---- the record
 
@@ -89,15 +88,15 @@ fresh_fits n b t l z = holdable (fresh n b t) (fresh_sound n b t z.range) (words
 
 module _ (n b t : ℕ) (s : List ℕ) where
   -- a refused opening leaves the buffer
-  pub open_refused : (r : Refusal) → open_check n b t (length s) ≡ Refuse r → (open_reply n b t s ≡ Refused r) × (open_after n b t s ≡ s)
+  pub open_refused : (r : Refusal) → open_check n b t (length s) ≡ Err r → (open_reply n b t s ≡ Err r) × (open_after n b t s ≡ s)
   unfolding open_reply open_after
   open_refused r e = (ap reply_of e, ap (λ (k : Check). buffer_opened k n b t s) e)
 
-  pub open_accepted : open_check n b t (length s) ≡ Pass → (open_reply n b t s ≡ Accepted Done) × (open_after n b t s ≡ put (fresh n b t) s)
+  pub open_accepted : open_check n b t (length s) ≡ no_refusal → (open_reply n b t s ≡ Ok Done) × (open_after n b t s ≡ put (fresh n b t) s)
   unfolding open_reply open_after
   open_accepted e = (ap reply_of e, ap (λ (k : Check). buffer_opened k n b t s) e)
 
-  module _ (pass : open_check n b t (length s) ≡ Pass) where
+  module _ (pass : open_check n b t (length s) ≡ no_refusal) where
     fits : Fits (fresh n b t)
     fits = fresh_fits n b t (length s) (sized n b t (length s) pass)
 

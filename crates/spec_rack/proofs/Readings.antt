@@ -7,7 +7,7 @@ use lib.ListN.{length}
 use borrow.Author.Tests.{lt-leb}
 use Rattle.spec_base.specs.Folds.{all_below}
 use Rattle.spec_wire.specs.declared.Refusal.{Refusal}
-use Rattle.spec_wire.specs.declared.Check.{Check}
+use Rattle.spec_wire.specs.Answers.{Check}
 use Rattle.spec_wire.specs.declared.Step.TheVariants.{Load, Store, Send, Deliver, Raise, Lower, Forward}
 use Rattle.spec_wire.specs.Refusals.{number, when◌refuse◌else◌}
 use Rattle.spec_wire.specs.Kinds.{kind_of, field_array}

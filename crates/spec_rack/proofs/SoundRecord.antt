@@ -4,7 +4,7 @@ use native.Mathlib.Omega.{arith}
 use mathlib.Core.Path.{◌≡◌, sym, ◌∙◌, subst}
 use mathlib.Core.Bool.{true}
 use mathlib.Core.List.{List}
-use lib.ListN.{length, get_or, drop}
+use lib.ListN.{length, drop}
 use Rattle.spec_base.specs.Folds.{All}
 use Rattle.spec_base.proofs.Tests.{and_l, and_r, and_of}
 use Rattle.spec_base.proofs.Folds.{all_at, all_map}

@@ -10,8 +10,8 @@ use lib.ListN.{length, get_or, length-set}
 use lib.Dec.{eqb, leb, ltb}
 use Rattle.spec_base.proofs.Tests.{differs, and_l, and_r, or_l, or_r, and_not}
 use Rattle.spec_wire.specs.declared.Refusal.{Refusal}
-use Rattle.spec_wire.specs.declared.Check.{Check}
-use Rattle.spec_wire.specs.declared.Check.TheVariants.{Pass, Refuse}
+use Rattle.std.specs.Prelude.{Ok, Err}
+use Rattle.spec_wire.specs.Answers.{Check, no_refusal}
 use Rattle.spec_wire.specs.Refusals.{when◌refuse◌else◌}
 use Rattle.spec_wire.specs.declared.Step.{Step}
 use Rattle.spec_wire.specs.declared.Step.TheVariants.{Load, Store, Send, Deliver, Raise, Lower, Forward}
@@ -62,8 +62,8 @@ Keeps P (accepted a r) = P a r
 
 -- X, where a check passes
 abbrev pub IfPassed : Check → Type 0 → Type 0
-IfPassed Pass X = X
-IfPassed (Refuse n) X = Unit {0}
+IfPassed (Ok _) X = X
+IfPassed (Err n) X = Unit {0}
 
 -- past a line its test has failed
 pub guard : (X : Type 0) (t : Bool) (n : Refusal) (k : Check) → (t ≡ false → IfPassed k X) → IfPassed (when t refuse n else k) X
@@ -72,13 +72,13 @@ guard X true n k f = tt
 guard X false n k f = f refl
 
 -- past other lines their check has passed
-pub given : (X : Type 0) (k : Check) → (k ≡ Pass → X) → IfPassed k X
-given X Pass f = f refl
-given X (Refuse n) f = tt
+pub given : (X : Type 0) (k : Check) → (k ≡ no_refusal → X) → IfPassed k X
+given X (Ok _) f = f refl
+given X (Err n) f = tt
 
 settle : (P : Answer → Rack → Type 0) (k : Check) (a : Answer) (r : Rack) → IfPassed k (P a r) → Keeps P (settled k a r)
-settle P Pass a r h = h
-settle P (Refuse n) a r h = tt
+settle P (Ok _) a r h = h
+settle P (Err n) a r h = tt
 
 some : (n : ℕ) → eqb n 0 ≡ false → 0 < n
 some n h = let ne : n ≡ 0 → ⊥ = eqb-false n 0 h in omega arith

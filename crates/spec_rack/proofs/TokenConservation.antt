@@ -14,7 +14,7 @@ use Rattle.spec_arbiter.specs.Claims.{Claims, active}
 use Rattle.spec_arbiter.proofs.Claims.{SoundClaims}
 use Rattle.spec_rack.specs.declared.Owner.TheVariants.{Away}
 use Rattle.spec_rack.specs.declared.Message.{Message}
-use Rattle.spec_rack.specs.Rack.{Cell, Block, Rack, mesh_limit, zeros, is_home, present, clean, may_go_bare, supplied, no_cell, no_block, no_message, block_at, claims_at, cell_at, message_at, owners, held, carried}
+use Rattle.spec_rack.specs.Rack.{Cell, Block, Rack, mesh_limit, zeros, is_home, present, may_go_bare, no_cell, no_block, no_message, block_at, claims_at, cell_at, message_at, held, carried}
 use Rattle.spec_rack.specs.Rules.{with_cell, with_claims, without_tokens, with_tokens, message, sent, delivered, forwarded}
 use Rattle.spec_rack.specs.FlatMemory.{Memory}
 use Rattle.spec_rack.proofs.SoundnessFacts.{SoundCell, SoundMessage, SoundShape, Sound}

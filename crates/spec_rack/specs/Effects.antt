@@ -1,18 +1,15 @@
 -- Document 01, "The rack", "Steps" and "Refusal table": what a step, a list of steps, a run and an opening leave in a lent buffer. Each is said of every
 -- buffer, sound or not, and of all bytes, step records or not. Of a buffer without a sound record also what is replied.
-use Rattle.std.specs.Prelude.{ℕ, ◌≡◌, true, false, List, ◌++◌, map, length, drop}
+use Rattle.std.specs.Prelude.{ℕ, ◌≡◌, true, false, List, ◌++◌, map, length, drop, Ok, Err}
 use Rattle.spec_base.specs.Number.{Bytes}
 use Rattle.spec_wire.specs.declared.Refusal.{Refusal}
 use Rattle.spec_wire.specs.declared.Refusal.TheVariants.{Unsound}
 use Rattle.spec_wire.specs.declared.Step.{Step}
-use Rattle.spec_wire.specs.declared.Reading.{Reading}
-use Rattle.spec_wire.specs.declared.Reading.TheVariants.{Step as Read, Refused as NoStep}
+use Rattle.spec_rack.specs.Replies.{Reply}
+use Rattle.spec_wire.specs.Answers.{Reading}
 use Rattle.spec_wire.specs.Reader.{read_record}
 use Rattle.spec_rack.specs.declared.Answer.{Answer}
 use Rattle.spec_rack.specs.declared.Answer.TheVariants.{Done}
-use Rattle.spec_rack.specs.declared.Reply.{Reply}
-use Rattle.spec_rack.specs.declared.Reply.TheVariants.{Accepted, Refused}
-use Rattle.spec_rack.specs.declared.Lettered.TheVariants as Lettered
 use Rattle.spec_rack.specs.Rack.{fresh}
 use Rattle.spec_rack.specs.Rules.{accepted, rules}
 use Rattle.spec_rack.specs.Lists.{run, steps_of, after, replies, frames_from, RunResult}
@@ -43,14 +40,14 @@ pub record Steady (s s' : List ℕ) : Type 0 where
 -- bytes that were accepted with the answer a: they were a step, the record was sound, and the rules give that answer and the rack that the record has now
 pub record AcceptedAs (s bytes : List ℕ) (a : Answer) : Type 0 where
   pub step : Step
-  pub read : read_record bytes ≡ Read step
+  pub read : read_record bytes ≡ Ok step
   pub sound : sound_bytes s ≡ true
   pub ruled : rules (get s) step ≡ accepted a (get (step_after s bytes))
 
 pub record StepLeaves (s bytes : List ℕ) : Type 0 where
   pub steady : Steady s (step_after s bytes)
-  pub if_accepted : (a : Answer) → step_reply s bytes ≡ Accepted a → AcceptedAs s bytes a
-  pub if_refused : (n : Refusal) → step_reply s bytes ≡ Refused n → step_after s bytes ≡ s
+  pub if_accepted : (a : Answer) → step_reply s bytes ≡ Ok a → AcceptedAs s bytes a
+  pub if_refused : (n : Refusal) → step_reply s bytes ≡ Err n → step_after s bytes ≡ s
 
 abbrev pub EveryStep : Type 0
 EveryStep = (s bytes : List ℕ) → Bytes s → StepLeaves s bytes
@@ -69,14 +66,14 @@ EveryList = (s : List ℕ) (steps : List (List ℕ)) → Bytes s → ListLeaves 
 
 -- what is replied to bytes then: torn, or unsound
 abbrev pub unsound_reply : Reading → Reply
-unsound_reply (NoStep n) = Refused n
-unsound_reply (Read t) = Refused Unsound
+unsound_reply (Err n) = Err n
+unsound_reply (Ok t) = Err Unsound
 
 -- every call that looks at a record is refused, each reply of a list too, and nothing changes
 pub record UnsoundLeaves (s : List ℕ) : Type 0 where
   pub step : (bytes : List ℕ) → (step_reply s bytes ≡ unsound_reply (read_record bytes)) × (step_after s bytes ≡ s)
   pub list : (steps : List (List ℕ)) → (replies s steps ≡ map (λ bytes. unsound_reply (read_record bytes)) steps) × (after s steps ≡ s)
-  pub letter : (c b : ℕ) → letter_reply s c b ≡ Lettered.Refused Unsound
+  pub letter : (c b : ℕ) → letter_reply s c b ≡ Err Unsound
 
 abbrev pub EveryUnsound : Type 0
 EveryUnsound = (s : List ℕ) → sound_bytes s ≡ false → UnsoundLeaves s
@@ -89,8 +86,8 @@ pub record OpenedAs (n b t : ℕ) (s : List ℕ) : Type 0 where
   pub sound : sound_bytes (open_after n b t s) ≡ true
 
 pub record OpeningLeaves (n b t : ℕ) (s : List ℕ) : Type 0 where
-  pub if_accepted : open_reply n b t s ≡ Accepted Done → OpenedAs n b t s
-  pub if_refused : (r : Refusal) → open_reply n b t s ≡ Refused r → open_after n b t s ≡ s
+  pub if_accepted : open_reply n b t s ≡ Ok Done → OpenedAs n b t s
+  pub if_refused : (r : Refusal) → open_reply n b t s ≡ Err r → open_after n b t s ≡ s
 
 abbrev pub EveryOpening : Type 0
 EveryOpening = (n b t : ℕ) (s : List ℕ) → Bytes s → OpeningLeaves n b t s

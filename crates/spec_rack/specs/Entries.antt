@@ -1,13 +1,12 @@
 -- Document 01, "Steps" and "Refusal table": the bytes of a step, given to the record in a lent buffer: the reply, and the buffer afterwards.
-use Rattle.std.specs.Prelude.{List, ℕ, cond}
+use Rattle.std.specs.Prelude.{List, ℕ, cond, Ok, Err}
 use Rattle.spec_wire.specs.declared.Step.{Step}
-use Rattle.spec_rack.specs.declared.Reply.{Reply}
+use Rattle.spec_rack.specs.Replies.{Reply}
+use Rattle.spec_wire.specs.Answers.{Reading}
 use Rattle.spec_rack.specs.Rack.{Rack}
 use Rattle.spec_rack.specs.Rules.{Outcome, refused, accepted, rules, reply}
 use Rattle.spec_rack.specs.RecordLayout.{get, put}
 use Rattle.spec_wire.specs.declared.Refusal.TheVariants.{Unsound}
-use Rattle.spec_wire.specs.declared.Reading.{Reading}
-use Rattle.spec_wire.specs.declared.Reading.TheVariants.{Step as Read, Refused as NoStep}
 use Rattle.spec_wire.specs.Reader.{read_record}
 use Rattle.spec_rack.specs.Soundness.{sound_bytes}
 
@@ -25,8 +24,8 @@ buffer_after s t = buffer_after_outcome s (rules (get s) t)
 
 -- bytes that are no step record are refused, then a buffer that holds no sound record; then it is decided by the rack
 abbrev pub outcome_by : (Rack → Step → Outcome) → Reading → List ℕ → Outcome
-outcome_by decide (NoStep n) s = refused n
-outcome_by decide (Read t) s = cond (sound_bytes s) (decide (get s) t) (refused Unsound)
+outcome_by decide (Err n) s = refused n
+outcome_by decide (Ok t) s = cond (sound_bytes s) (decide (get s) t) (refused Unsound)
 
 -- namely by the rules
 abbrev pub outcome : Reading → List ℕ → Outcome

@@ -1,7 +1,7 @@
 -- Document 01, "Refusal table", 3 and 14: what an accepted step reads and writes of a sound rack is there. So what Rack.antt has for places past the ends of
 -- its lists never counts in an accepted step. Proved, so it adds nothing to believe.
 use Rattle.std.specs.Prelude.{ℕ, ◌<◌, ◌≡◌, true, length}
-use Rattle.spec_wire.specs.declared.Check.TheVariants.{Pass}
+use Rattle.spec_wire.specs.Answers.{no_refusal}
 use Rattle.spec_wire.specs.declared.Step.{Step}
 use Rattle.spec_wire.specs.declared.Step.TheVariants.{Load, Store, Send, Deliver, Raise, Lower, Forward}
 use Rattle.spec_arbiter.specs.Claims.{active}
@@ -25,4 +25,4 @@ InRange r (Lower c b) = OnRack r c b
 InRange r (Forward c b) = OnRack r c b × OnRack r (active (claims_at r b)) b
 
 abbrev pub AcceptedInRange : Type 0
-AcceptedInRange = (r : Rack) (s : Step) → sound r ≡ true → check r s ≡ Pass → InRange r s
+AcceptedInRange = (r : Rack) (s : Step) → sound r ≡ true → check r s ≡ no_refusal → InRange r s

@@ -1,16 +1,14 @@
 -- Document 01, "The flat memory", in the field's words: its two invariants of a coherent memory, single writer and multiple readers and data value, and Token
 -- Coherence's own, token conservation, of every list from every opening. Demand 3 (Coherence.antt) is about what loads give; these are about the rack that a
 -- list leaves.
-use Rattle.std.specs.Prelude.{◌≡◌, true, List, [], get_or, ℕ}
+use Rattle.std.specs.Prelude.{◌≡◌, true, List, [], get_or, ℕ, Ok}
 use Rattle.spec_base.specs.Number.{Bytes}
 use Rattle.spec_wire.specs.declared.Step.{Step}
 use Rattle.spec_wire.specs.declared.Step.TheVariants.{Load, Store}
-use Rattle.spec_wire.specs.declared.Reading.TheVariants.{Step as Read}
+use Rattle.spec_rack.specs.Replies.{Reply}
 use Rattle.spec_wire.specs.Reader.{read_record}
 use Rattle.spec_rack.specs.declared.Answer.{Answer}
 use Rattle.spec_rack.specs.declared.Answer.TheVariants.{Done}
-use Rattle.spec_rack.specs.declared.Reply.{Reply}
-use Rattle.spec_rack.specs.declared.Reply.TheVariants.{Accepted}
 use Rattle.spec_rack.specs.Rack.{Rack, cell_at, message_at, carried, in_flight}
 use Rattle.spec_rack.specs.Rules.{accepted, opening}
 use Rattle.spec_rack.specs.FlatMemory.{Memory, blank, memory_after}
@@ -27,13 +25,13 @@ use Rattle.spec_rack.specs.Coherence.{Counts}
 module _ {S I : Type 0} (reply : S → I → Reply) (is : I → Step → Type 0) (rackIn : S → Rack) where
   -- component c has block b to itself: no load of the block by another component would be accepted, and no store; and no token of it is in flight
   pub record Alone (s : S) (c b : ℕ) : Type 0 where
-    pub no_reader : (x : I) (j w : ℕ) (a : Answer) → (j ≡ c → ⊥) → is x (Load j b w) → reply s x ≡ Accepted a → ⊥
-    pub no_writer : (x : I) (j w v : ℕ) (a : Answer) → (j ≡ c → ⊥) → is x (Store j b w v) → reply s x ≡ Accepted a → ⊥
+    pub no_reader : (x : I) (j w : ℕ) (a : Answer) → (j ≡ c → ⊥) → is x (Load j b w) → reply s x ≡ Ok a → ⊥
+    pub no_writer : (x : I) (j w v : ℕ) (a : Answer) → (j ≡ c → ⊥) → is x (Store j b w v) → reply s x ≡ Ok a → ⊥
     pub none_in_flight : in_flight carried b (rackIn s).mesh ≡ 0
 
   -- so it is wherever a store by c of a word of b would be accepted
   abbrev pub SingleWriter : S → Type 0
-  SingleWriter s = (x : I) (c b w v : ℕ) (a : Answer) → is x (Store c b w v) → reply s x ≡ Accepted a → Alone s c b
+  SingleWriter s = (x : I) (c b w v : ℕ) (a : Answer) → is x (Store c b w v) → reply s x ≡ Ok a → Alone s c b
 
 -- ---- data value
 
@@ -60,11 +58,11 @@ TokenConservation = OfSteps (λ n b t r steps. Counts n b t (run r steps))
 -- ---- and of every list of byte strings, torn and refused ones among them, from every opening that is accepted, in every buffer
 
 abbrev pub OfBytes : (ℕ → ℕ → ℕ → List ℕ → List (List ℕ) → Type 0) → Type 0
-OfBytes Holds = (n b t : ℕ) (s : List ℕ) (steps : List (List ℕ)) → Bytes s → open_reply n b t s ≡ Accepted Done → Holds n b t (open_after n b t s) steps
+OfBytes Holds = (n b t : ℕ) (s : List ℕ) (steps : List (List ℕ)) → Bytes s → open_reply n b t s ≡ Ok Done → Holds n b t (open_after n b t s) steps
 
 -- the store that would be accepted, and the loads and stores that would not, are given as bytes too
 abbrev pub SingleWriterMultipleReadersBytes : Type 0
-SingleWriterMultipleReadersBytes = OfBytes (λ n b t s steps. SingleWriter step_reply (λ bytes step. read_record bytes ≡ Read step) get (after s steps))
+SingleWriterMultipleReadersBytes = OfBytes (λ n b t s steps. SingleWriter step_reply (λ bytes step. read_record bytes ≡ Ok step) get (after s steps))
 
 abbrev pub DataValueBytes : Type 0
 DataValueBytes = OfBytes (λ n b t s steps. Current (get (after s steps)) (memory_after (blank b) (accesses s steps)))

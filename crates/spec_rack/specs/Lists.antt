@@ -1,13 +1,11 @@
 -- Document 01, "The flat memory": a list given step by step, to a rack and to the record in a lent buffer; the replies, and what the flat memory is handed.
-use Rattle.std.specs.Prelude.{List, [], ◌∷◌, ◌++◌, map, ℕ, ◌+◌, ◌≡◌, length, drop}
+use Rattle.std.specs.Prelude.{List, [], ◌∷◌, ◌++◌, map, ℕ, ◌+◌, ◌≡◌, length, drop, Ok, Err}
 use Rattle.spec_wire.specs.declared.Step.{Step}
-use Rattle.spec_wire.specs.declared.Reading.{Reading}
-use Rattle.spec_wire.specs.declared.Reading.TheVariants.{Step as Read, Refused as NoStep}
+use Rattle.spec_rack.specs.Replies.{Reply}
+use Rattle.spec_wire.specs.Answers.{Reading}
 use Rattle.spec_wire.specs.Reader.{read_record}
 use Rattle.spec_rack.specs.declared.Answer.{Answer}
 use Rattle.spec_rack.specs.declared.Answer.TheVariants.{Done, Word, Served}
-use Rattle.spec_rack.specs.declared.Reply.{Reply}
-use Rattle.spec_rack.specs.declared.Reply.TheVariants.{Accepted, Refused}
 use Rattle.spec_rack.specs.FlatMemory.{Access, access_of}
 use Rattle.spec_rack.specs.Rack.{Rack}
 use Rattle.spec_rack.specs.Rules.{rules, reply, rack_after}
@@ -25,13 +23,13 @@ words_of (Word w) = w ∷ []
 words_of (Served c b) = []
 
 abbrev pub answered : Reply → List ℕ
-answered (Accepted a) = words_of a
-answered (Refused n) = []
+answered (Ok a) = words_of a
+answered (Err n) = []
 
 -- what the flat memory is handed of an item: its access, where it was accepted
 abbrev pub handed : Reply → List Access → List Access
-handed (Accepted a) l = l
-handed (Refused n) l = []
+handed (Ok a) l = l
+handed (Err n) l = []
 
 -- by what one item leaves, what is replied to it, and the access that it is
 module _ {S I : Type 0} (after : S → I → S) where
@@ -79,8 +77,8 @@ rack_accesses r ts = accesses_of ruled_after ruled_reply access_of r ts
 
 -- the steps among byte strings
 abbrev pub step_in : Reading → List Step
-step_in (Read t) = t ∷ []
-step_in (NoStep n) = []
+step_in (Ok t) = t ∷ []
+step_in (Err n) = []
 
 abbrev pub steps_of : List (List ℕ) → List Step
 steps_of [] = []
@@ -88,8 +86,8 @@ steps_of (b ∷ bs) = step_in (read_record b) ++ steps_of bs
 
 -- the access of a byte string that is a load or a store
 abbrev pub access_in : Reading → List Access
-access_in (Read t) = access_of t
-access_in (NoStep n) = []
+access_in (Ok t) = access_of t
+access_in (Err n) = []
 
 -- ---- to a lent buffer: the buffer after the list, the replies, the words of the answered loads, the accepted loads and stores
 

@@ -4,7 +4,7 @@ use Rattle.std.specs.Prelude.{ℕ, ◌≡◌, Bool, true, false}
 use Rattle.spec_rack.specs.declared.Owner.TheVariants.{Away, Dirty, Clean}
 use Rattle.spec_rack.specs.declared.Message.{Message}
 use Rattle.spec_rack.specs.Rack.{Cell, is_home, present, full_cell}
-use Rattle.spec_rack.specs.Rules.{with_word, without_tokens, message, sent, with_tokens}
+use Rattle.spec_rack.specs.Rules.{with_word, without_tokens, message, with_tokens}
 
 pub record Marks : Type 0 where
   pub fresh_clean : (t : ℕ) → (full_cell t).owner ≡ Clean

@@ -1,11 +1,10 @@
 -- Document 01, "The rack", "Steps", "Refusal table" and "State letter", with document 02, Nos. 1, 2, 4 and 7: sentences that the W lines leave out, each an
 -- equation on a small rack that is computed. They hold the definitions to the paper where a theorem about both definition and code could not tell a wrong
 -- reading.
-use Rattle.std.specs.Prelude.{ℕ, ◌<◌, ◌≡◌, Bool, true, false, ◌||◌, List, [], ◌∷◌, ◌++◌, map, length, replicate, eqb, leb}
+use Rattle.std.specs.Prelude.{ℕ, ◌<◌, ◌≡◌, Bool, true, false, ◌||◌, List, [], ◌∷◌, ◌++◌, map, length, replicate, eqb, leb, Ok, Err}
 use Rattle.spec_wire.specs.Refusals.{number}
 use Rattle.spec_wire.specs.declared.Refusal.TheVariants.{Torn, Unsound, OffRack, Home}
-use Rattle.spec_wire.specs.declared.Check.{Check}
-use Rattle.spec_wire.specs.declared.Check.TheVariants.{Pass, Refuse}
+use Rattle.spec_wire.specs.Answers.{Check}
 use Rattle.spec_wire.specs.declared.Step.{Step}
 use Rattle.spec_wire.specs.declared.Step.TheVariants.{Load, Store, Send, Deliver, Raise, Lower, Forward}
 use Rattle.spec_wire.specs.StepRecord.{step_bytes}
@@ -13,9 +12,7 @@ use Rattle.spec_arbiter.specs.Claims.{Claims, no_claims, active}
 use Rattle.spec_rack.specs.declared.Owner.{Owner}
 use Rattle.spec_rack.specs.declared.Owner.TheVariants.{Away, Dirty, Clean}
 use Rattle.spec_rack.specs.declared.Message.{Message}
-use Rattle.spec_rack.specs.declared.Reply.TheVariants.{Refused}
 use Rattle.spec_rack.specs.declared.Letter.TheVariants.{M, E, I}
-use Rattle.spec_rack.specs.declared.Lettered.TheVariants as Lettered
 use Rattle.spec_rack.specs.Rack.{Cell, Rack, zeros, no_cell, fresh, cell_at, claims_at}
 use Rattle.spec_rack.specs.Soundness.{sound}
 use Rattle.spec_rack.specs.Rules.{check, rules, reply, reply_of, with_claims}
@@ -44,8 +41,8 @@ listed k (n ∷ ns) = eqb k n || listed k ns
 
 -- the verdict is a pass, or a refusal with a number of the list
 abbrev pub among : List ℕ → Check → Bool
-among ns Pass = true
-among ns (Refuse r) = listed (number r) ns
+among ns (Ok _) = true
+among ns (Err r) = listed (number r) ns
 
 -- so a deliver never meets 3 or 4, a load, a send or a forward never 4, a forward never 9
 abbrev pub OnlyNaming : Type 0
@@ -54,7 +51,7 @@ OnlyNaming = (r : Rack) (s : Step) → among (naming s) (check r s) ≡ true
 -- ---- a letter asks 2 before 3 and 4: a buffer with too few bytes for its count of blocks gives 2, whatever the component and the block
 
 abbrev pub ShortRecord : Type 0
-ShortRecord = (s : List ℕ) (c b : ℕ) → length s < record_length (blocks_in s) → letter_reply s c b ≡ Lettered.Refused Unsound
+ShortRecord = (s : List ℕ) (c b : ℕ) → length s < record_length (blocks_in s) → letter_reply s c b ≡ Err Unsound
 
 -- ---- a rack at a time: what each of several steps would meet on it, 0 for accepted
 
@@ -120,12 +117,12 @@ pub record FirstMatch : Type 0 where
   -- load: 5 before 6, and 6 needs a token
   pub load_5 : met full (Load 1 0 0 ∷ Load 1 1 0 ∷ []) ≡ 5 ∷ 6 ∷ []
   -- letter: 2, 3, 4
-  pub letter_2 : letter_reply [] 0 33 ≡ Lettered.Refused Unsound
-  pub letter_3 : letter (fresh 2 2 3) 0 2 ≡ Lettered.Refused OffRack
-  pub letter_4 : letter (fresh 2 2 3) 0 1 ≡ Lettered.Refused Home
+  pub letter_2 : letter_reply [] 0 33 ≡ Err Unsound
+  pub letter_3 : letter (fresh 2 2 3) 0 2 ≡ Err OffRack
+  pub letter_4 : letter (fresh 2 2 3) 0 1 ≡ Err Home
   -- a step: 1, 2, 3, with a buffer that is too short for a record
-  pub step_1 : step_reply [] [] ≡ Refused Torn
-  pub step_2 : step_reply [] (step_bytes (Load 255 255 255)) ≡ Refused Unsound
+  pub step_1 : step_reply [] [] ≡ Err Torn
+  pub step_2 : step_reply [] (step_bytes (Load 255 255 255)) ≡ Err Unsound
   -- opening: 19, 20
   pub opening_19 : code (open_reply 0 0 0 []) ≡ 19
   pub opening_20 : code (open_reply 1 1 1 []) ≡ 20
@@ -150,9 +147,9 @@ pub record Edges : Type 0 where
   pub target_in : met two (send_plain 0 2 1 ∷ send_plain 1 0 1 ∷ []) ≡ 0 ∷ 11 ∷ []
   pub target_out : met two (send_plain 0 3 1 ∷ []) ≡ 3 ∷ []
   -- the letter's component and block
-  pub letter_in : letter two 2 1 ≡ Lettered.Letter I
-  pub letter_off : letter two 3 1 ≡ Lettered.Refused OffRack
-  pub letter_off_block : letter two 2 2 ≡ Lettered.Refused OffRack
+  pub letter_in : letter two 2 1 ≡ Ok I
+  pub letter_off : letter two 3 1 ≡ Err OffRack
+  pub letter_off_block : letter two 2 2 ≡ Err OffRack
   -- fields that the table gives no bound of their own: a plain count above 64 is 11, a position above 63 is 14
   pub plain_high : met two (send_plain 0 1 65 ∷ send_plain 0 1 255 ∷ []) ≡ 11 ∷ 11 ∷ []
   pub position_high : met two (Deliver 0 ∷ Deliver 64 ∷ Deliver 255 ∷ []) ≡ 14 ∷ 14 ∷ 14 ∷ []
@@ -246,10 +243,10 @@ pub record Effects : Type 0 where
   pub mesh_63 : met (run claimed_full (Deliver 0 ∷ [])) (Forward 0 1 ∷ []) ≡ 0 ∷ []
   pub mesh_63_send : met (run full (Deliver 63 ∷ [])) (Send 0 1 1 1 false false ∷ []) ≡ 0 ∷ []
   -- where T = 1 a board that holds the owner holds all: E, and M once it has stored
-  pub letter_one : letter (run (fresh 1 1 1) (Send 0 0 1 0 true true ∷ Deliver 0 ∷ [])) 1 0 ≡ Lettered.Letter E
-  pub letter_one_stored : letter (run (fresh 1 1 1) (Send 0 0 1 0 true true ∷ Deliver 0 ∷ Store 1 0 0 7 ∷ [])) 1 0 ≡ Lettered.Letter M
+  pub letter_one : letter (run (fresh 1 1 1) (Send 0 0 1 0 true true ∷ Deliver 0 ∷ [])) 1 0 ≡ Ok E
+  pub letter_one_stored : letter (run (fresh 1 1 1) (Send 0 0 1 0 true true ∷ Deliver 0 ∷ Store 1 0 0 7 ∷ [])) 1 0 ≡ Ok M
   -- E says that home has the words only after an opening: the mark is sound without it
-  pub letter_other_at_home : (sound other_at_home ≡ true) × (letter other_at_home 1 0 ≡ Lettered.Letter E)
+  pub letter_other_at_home : (sound other_at_home ≡ true) × (letter other_at_home 1 0 ≡ Ok E)
 
 -- ---- the flat memory
 

@@ -1,15 +1,12 @@
 -- Document 01, "Language forms in the code": the number that stands for each reply and each state letter at an exported entry.
-use Rattle.std.specs.Prelude.{ℕ, cond, ◌&&◌, leb}
+use Rattle.std.specs.Prelude.{ℕ, cond, ◌&&◌, leb, Ok, Err}
 use Rattle.spec_wire.specs.declared.Refusal.TheVariants.{Size}
 use Rattle.spec_rack.specs.RecordLayout.{record_length}
 use Rattle.spec_wire.specs.Results.{packed, done, refused}
 use Rattle.spec_rack.specs.declared.Answer.TheVariants.{Done, Word, Served}
-use Rattle.spec_rack.specs.declared.Reply.{Reply}
-use Rattle.spec_rack.specs.declared.Reply.TheVariants.{Accepted, Refused}
+use Rattle.spec_rack.specs.Replies.{Lettered, Reply}
 use Rattle.spec_rack.specs.declared.Letter.{Letter}
 use Rattle.spec_rack.specs.declared.Letter.TheVariants.{M, O, E, S, I}
-use Rattle.spec_rack.specs.declared.Lettered.{Lettered}
-use Rattle.spec_rack.specs.declared.Lettered.TheVariants as Lettered
 
 -- kind 2: the word of a load
 abbrev pub word : ℕ → ℕ
@@ -28,14 +25,14 @@ abbrev pub served : ℕ → ℕ → ℕ
 served c b = packed 4 c b 0
 
 abbrev pub packed_reply : Reply → ℕ
-packed_reply (Accepted Done) = done 0
-packed_reply (Accepted (Word w)) = word w
-packed_reply (Accepted (Served c b)) = served c b
-packed_reply (Refused r) = refused r
+packed_reply (Ok Done) = done 0
+packed_reply (Ok (Word w)) = word w
+packed_reply (Ok (Served c b)) = served c b
+packed_reply (Err r) = refused r
 
 abbrev pub packed_letter : Lettered → ℕ
-packed_letter (Lettered.Letter l) = letter_number l
-packed_letter (Lettered.Refused r) = refused r
+packed_letter (Ok l) = letter_number l
+packed_letter (Err r) = refused r
 
 -- the length of a record of b blocks, where 1 to 32 blocks are possible
 abbrev pub packed_length : ℕ → ℕ

@@ -1,10 +1,10 @@
 -- Document 01, "Steps" and "Refusal table", with document 02, Nos. 1, 2 and 7: what each step of a rack does, and which refusal it meets first.
-use Rattle.std.specs.Prelude.{ℕ, ◌+◌, ◌-◌, Bool, not, cond, ◌&&◌, ◌||◌, List, [], ◌∷◌, ◌++◌, length, get_or, set, eqb, leb, ltb}
+use Rattle.std.specs.Prelude.{ℕ, ◌+◌, ◌-◌, Bool, not, cond, ◌&&◌, ◌||◌, List, [], ◌∷◌, ◌++◌, length, get_or, set, eqb, leb, ltb, Ok, Err}
 use Rattle.spec_base.specs.Folds.{remove_at, toℕ}
 use Rattle.spec_wire.specs.declared.Refusal.{Refusal}
 use Rattle.spec_wire.specs.declared.Refusal.TheVariants.{OffRack, Home, NoToken, NoData, Short, SelfSend, Claimed, Empty, NotHeld, BareOwner, MeshFull, NoMessage, Unclaimed, Size}
-use Rattle.spec_wire.specs.declared.Check.{Check}
-use Rattle.spec_wire.specs.declared.Check.TheVariants.{Pass, Refuse}
+use Rattle.spec_rack.specs.Replies.{Reply}
+use Rattle.spec_wire.specs.Answers.{Check, no_refusal}
 use Rattle.spec_wire.specs.Refusals.{when◌refuse◌else◌}
 use Rattle.spec_wire.specs.declared.Step.{Step}
 use Rattle.spec_wire.specs.declared.Step.TheVariants.{Load, Store, Send, Deliver, Raise, Lower, Forward}
@@ -14,8 +14,6 @@ use Rattle.spec_rack.specs.declared.Owner.TheVariants.{Away, Dirty, Clean}
 use Rattle.spec_rack.specs.declared.Message.{Message}
 use Rattle.spec_rack.specs.declared.Answer.{Answer}
 use Rattle.spec_rack.specs.declared.Answer.TheVariants.{Done, Word, Served}
-use Rattle.spec_rack.specs.declared.Reply.{Reply}
-use Rattle.spec_rack.specs.declared.Reply.TheVariants.{Accepted, Refused}
 use Rattle.spec_rack.specs.Rack.{Cell, Block, Rack, mesh_limit, is_home, present, may_go_bare, supplied, zeros, block_at, claims_at, cell_at, message_at, held, owners, fresh}
 use Rattle.spec_rack.specs.Soundness.{sizes}
 
@@ -127,12 +125,12 @@ check r (Load c b w) =
     when off_rack r c b || past_words w refuse OffRack else
     when eqb (held (cell_at r b c)) 0 refuse NoToken else  -- nothing held
     when not (cell_at r b c).valid refuse NoData else  -- tokens, not valid
-    Pass
+    no_refusal
 check r (Store c b w v) =
     when off_rack r c b || past_words w refuse OffRack else
     when is_home c refuse Home else  -- also where home holds all T
     when ltb (held (cell_at r b c)) r.tokens refuse Short else
-    Pass
+    no_refusal
 check r (Send c b t p o d) =
     when off_rack r c b || ltb r.boards t refuse OffRack else
     when eqb c t refuse SelfSend else
@@ -142,10 +140,10 @@ check r (Send c b t p o d) =
     when o && not d && not (may_go_bare (cell_at r b c).owner t) refuse BareOwner else  -- dirty, or to a board
     when d && not (cell_at r b c).valid refuse NoData else
     when mesh_full r refuse MeshFull else
-    Pass
+    no_refusal
 check r (Deliver i) =
     when past_mesh r i refuse NoMessage else
-    Pass
+    no_refusal
 check r (Raise c b) =
     when off_rack r c b refuse OffRack else
     when is_home c refuse Home else  -- home never waits
@@ -160,7 +158,7 @@ check r (Forward c b) =
     when eqb c (active (claims_at r b)) refuse SelfSend else
     when eqb (held (cell_at r b c)) 0 refuse NoToken else
     when mesh_full r refuse MeshFull else
-    Pass
+    no_refusal
 
 -- ---- a step that passes its checks: the rack after it, and its answer
 
@@ -189,16 +187,16 @@ pub data Outcome : Type 0 where
   accepted : Answer → Rack → Outcome
 
 abbrev pub settled : Check → Answer → Rack → Outcome
-settled Pass a r = accepted a r
-settled (Refuse n) a r = refused n
+settled (Ok _) a r = accepted a r
+settled (Err n) a r = refused n
 
 unfoldable pub rules : Rack → Step → Outcome
 rules r s = settled (check r s) (answer r s) (after r s)
 
 -- the reply, and the rack afterwards
 abbrev pub reply : Outcome → Reply
-reply (refused n) = Refused n
-reply (accepted a r) = Accepted a
+reply (refused n) = Err n
+reply (accepted a r) = Ok a
 
 abbrev pub rack_after : Rack → Outcome → Rack
 rack_after r (refused n) = r
@@ -206,8 +204,8 @@ rack_after r (accepted a r') = r'
 
 -- the reply to a step or an opening that gives only "done"
 abbrev pub reply_of : Check → Reply
-reply_of Pass = Accepted Done
-reply_of (Refuse n) = Refused n
+reply_of (Ok _) = Ok Done
+reply_of (Err n) = Err n
 
 -- ---- an opening with N, B and T; the buffer's length is asked for where there is one
 
@@ -216,7 +214,7 @@ abbrev pub opening_then : ℕ → ℕ → ℕ → Check → Check
 opening_then n b t rest = when not (sizes n b t) refuse Size else rest
 
 unfoldable pub opening_check : ℕ → ℕ → ℕ → Check
-opening_check n b t = opening_then n b t Pass
+opening_check n b t = opening_then n b t no_refusal
 
 unfoldable pub opening : ℕ → ℕ → ℕ → Outcome
 opening n b t = settled (opening_check n b t) Done (fresh n b t)

@@ -1,8 +1,6 @@
 // The rack: types, and the constants of the record's layout. There is no code.
 #![tactic(auto)]
 
-use spec_wire::Refusal;
-
 // What an accepted step gives.
 #[derive(Clone, Copy)]
 pub enum Answer {
@@ -10,13 +8,6 @@ pub enum Answer {
     Word(u32),
     // Whom a deliver served: the target and the block of its message.
     Served { component: u8, block: u8 },
-}
-
-// The reply to a step or an opening.
-#[derive(Clone, Copy)]
-pub enum Reply {
-    Accepted(Answer),
-    Refused(Refusal),
 }
 
 // The state letter of a board and a block.
@@ -27,13 +18,6 @@ pub enum Letter {
     E,
     S,
     I,
-}
-
-// The reply to a question for the state letter.
-#[derive(Clone, Copy)]
-pub enum Lettered {
-    Letter(Letter),
-    Refused(Refusal),
 }
 
 // The owner token of a block, as a component or a message has it: there with its mark, or away. Dirty: on every record that an opening led to, the block

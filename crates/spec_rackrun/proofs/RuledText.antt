@@ -2,7 +2,7 @@
 -- as the rules have it.
 use Prim.Native.Nat.{ℕ, ◌≤◌}
 use native.Mathlib.Omega.{arith}
-use mathlib.Core.Path.{◌≡◌, refl, sym, ap, ◌∙◌, subst}
+use mathlib.Core.Path.{◌≡◌, refl, sym, ap, ◌∙◌}
 use mathlib.Core.Logic.{⊎_elim}
 use mathlib.Core.Bool.{Bool, true, false, cond}
 use mathlib.Core.List.{List, [], ◌∷◌, ◌++◌}
@@ -11,18 +11,15 @@ use lib.Dec.{ltb}
 use Rattle.spec_base.specs.Number.{Bytes}
 use Rattle.spec_base.proofs.Tests.{either, not_of_false, not_of_true}
 use Rattle.spec_wire.specs.declared.Refusal.TheVariants.{Torn}
-use Rattle.spec_wire.specs.declared.Check.{Check}
-use Rattle.spec_wire.specs.declared.Check.TheVariants.{Pass, Refuse}
+use Rattle.std.specs.Prelude.{Ok, Err}
+use Rattle.spec_rack.specs.Replies.{Reply}
+use Rattle.spec_wire.specs.Answers.{Check, Reading}
 use Rattle.spec_wire.specs.declared.Step.{Step}
-use Rattle.spec_wire.specs.declared.Reading.{Reading}
-use Rattle.spec_wire.specs.declared.Reading.TheVariants.{Step as Read, Refused as NoStep}
 use Rattle.spec_wire.specs.Frames.{frames}
 use Rattle.spec_wire.specs.Reader.{read_record}
 use Rattle.spec_wire.proofs.RefusalTable.{stops, goes as past}
 use Rattle.spec_wire.proofs.RoundTrip.{read_fits}
 use Rattle.spec_rack.specs.declared.Answer.TheVariants.{Done}
-use Rattle.spec_rack.specs.declared.Reply.{Reply}
-use Rattle.spec_rack.specs.declared.Reply.TheVariants.{Accepted, Refused}
 use Rattle.spec_rack.specs.Rack.{Rack, fresh}
 use Rattle.spec_rack.specs.Soundness.{sizes}
 use Rattle.spec_rack.specs.Rules.{Outcome, refused, settled, rules, opening_check, opening, rack_after, reply, reply_of}
@@ -49,8 +46,8 @@ by_sizes n b t l room =
     (either (sizes n b t))
 
 same_reply : (k : Check) (r : Rack) → reply_of k ≡ reply (settled k Done r)
-same_reply Pass r = refl
-same_reply (Refuse n) r = refl
+same_reply (Ok _) r = refl
+same_reply (Err n) r = refl
 
 pub opening_by_sizes : OpeningBySizes
 unfolding open_reply opening
@@ -67,10 +64,10 @@ replies_ruled (b ∷ bs) s live = by_reading (λ q l. replies_ruled bs q l) (rea
         → reply o ∷ replies (buffer_after_outcome s o) bs ≡ reply o ∷ ruled_replies (rack_after (get s) o) bs
     by_step rest o g = ap (λ (rs : List Reply). reply o ∷ rs) (rest (buffer_after_outcome s o) g.live ∙ ap (λ (r : Rack). ruled_replies r bs) g.rack)
 
-    by_reading : ((q : List ℕ) → Live q → replies q bs ≡ ruled_replies (get q) bs) → (k : Reading) → ((t : Step) → k ≡ Read t → StepFits t)
+    by_reading : ((q : List ℕ) → Live q → replies q bs ≡ ruled_replies (get q) bs) → (k : Reading) → ((t : Step) → k ≡ Ok t → StepFits t)
         → reply (outcome k s) ∷ replies (buffer_after_outcome s (outcome k s)) bs ≡ reply (ruled (get s) k) ∷ ruled_replies (rack_after (get s) (ruled (get s) k)) bs
-    by_reading rest (NoStep n) f = ap (λ (rs : List Reply). Refused n ∷ rs) (rest s live)
-    by_reading rest (Read t) f =
+    by_reading rest (Err n) f = ap (λ (rs : List Reply). Err n ∷ rs) (rest s live)
+    by_reading rest (Ok t) f =
         ap (λ (o : Outcome). reply o ∷ replies (buffer_after_outcome s o) bs) (outcome_read s live t) ∙ by_step rest (rules (get s) t) (goes s live t (f t refl))
 
 -- ---- the text
@@ -79,12 +76,12 @@ module _ (s : List ℕ) (bytes : Bytes s) (room : longest_record ≤ length s) (
   -- by the verdict on the opening
   by_check : (n b t : ℕ) (k : Check) → open_check n b t (length s) ≡ k
       → line 0 (reply_of k) ++ step_lines (reply_of k) (open_after n b t s) list ≡ line 0 (reply (settled k Done (fresh n b t))) ++ ruled_lines (settled k Done (fresh n b t)) list
-  by_check n b t Pass e =
+  by_check n b t (Ok _) e =
       let first = open_after n b t s in
       let live = live_of first (open_bytes n b t s e bytes) (open_sound n b t s e bytes) in
-      ap (λ (rs : List Reply). line 0 (Accepted Done) ++ lines 1 rs)
+      ap (λ (rs : List Reply). line 0 (Ok Done) ++ lines 1 rs)
       (replies_ruled (frames 65536 list) first live ∙ ap (λ (r : Rack). ruled_replies r (frames 65536 list)) (open_get n b t s e))
-  by_check n b t (Refuse r) e = refl
+  by_check n b t (Err r) e = refl
 
   by_opening : (n b t : ℕ) → line 0 (open_reply n b t s) ++ step_lines (open_reply n b t s) (open_after n b t s) list
       ≡ line 0 (reply (opening n b t)) ++ ruled_lines (opening n b t) list
@@ -94,7 +91,7 @@ module _ (s : List ℕ) (bytes : Bytes s) (room : longest_record ≤ length s) (
       ∙ ap (λ (k : Check). line 0 (reply (settled k Done (fresh n b t))) ++ ruled_lines (settled k Done (fresh n b t)) list) (by_sizes n b t (length s) room)
 
   by_length : (n b t : ℕ) (short : Bool)
-      → line 0 (cond short (Refused Torn) (open_reply n b t s)) ++ step_lines (cond short (Refused Torn) (open_reply n b t s)) (cond short s (open_after n b t s)) list
+      → line 0 (cond short (Err Torn) (open_reply n b t s)) ++ step_lines (cond short (Err Torn) (open_reply n b t s)) (cond short s (open_after n b t s)) list
       ≡ line 0 (reply (cond short (refused Torn) (opening n b t))) ++ ruled_lines (cond short (refused Torn) (opening n b t)) list
   by_length n b t true = refl
   by_length n b t false = by_opening n b t

@@ -1,6 +1,6 @@
 -- Document 01, "Program rackrun", with document 02, Nos. 1, 2 and 7: lines and texts as they are printed. Each is an equation that is computed, but for what is
 -- used of an input, which is of every input. They hold the definitions to the paper where a theorem about both definition and code could not tell a wrong reading.
-use Rattle.std.specs.Prelude.{ℕ, ◌≤◌, ◌≡◌, true, false, List, [], ◌∷◌, ◌++◌, map, length, replicate}
+use Rattle.std.specs.Prelude.{ℕ, ◌≤◌, ◌≡◌, true, false, List, [], ◌∷◌, ◌++◌, map, length, replicate, Ok, Err}
 use Prim.Native.Char.{code}
 use Prim.Native.String.{String, [] as nothing, ◌∷◌ as ◌then◌}
 use Rattle.spec_wire.specs.declared.Refusal.TheVariants.{NoToken, ShortBuffer}
@@ -8,7 +8,6 @@ use Rattle.spec_wire.specs.declared.Step.TheVariants.{Send, Deliver}
 use Rattle.spec_wire.specs.StepRecord.{step_bytes}
 use Rattle.spec_wire.specs.Readings.{listing}
 use Rattle.spec_rack.specs.declared.Answer.TheVariants.{Done, Word, Served}
-use Rattle.spec_rack.specs.declared.Reply.TheVariants.{Accepted, Refused}
 use Rattle.spec_rackrun.specs.Rackrun.{used_input, line}
 use Rattle.spec_rackrun.specs.RuledText.{ruled_text}
 
@@ -41,14 +40,14 @@ pub record Printed : Type 0 where
   -- the characters of a line, in ASCII
   pub characters : ascii "09afdkorv. \n" ≡ 48 ∷ 57 ∷ 97 ∷ 102 ∷ 100 ∷ 107 ∷ 111 ∷ 114 ∷ 118 ∷ 46 ∷ 32 ∷ 10 ∷ []
   -- the index, a space, what is said, a newline
-  pub ok : line 0 (Accepted Done) ≡ ascii "0 ok\n"
-  pub word : line 4 (Accepted (Word 42)) ≡ ascii "4 v0000002a\n"
-  pub all_digits : line 10 (Accepted (Word 0x89ABCDEF)) ≡ ascii "10 v89abcdef\n"
-  pub refusal : line 5 (Refused NoToken) ≡ ascii "5 r5\n"
-  pub longest : line 21845 (Refused ShortBuffer) ≡ ascii "21845 r20\n"
+  pub ok : line 0 (Ok Done) ≡ ascii "0 ok\n"
+  pub word : line 4 (Ok (Word 42)) ≡ ascii "4 v0000002a\n"
+  pub all_digits : line 10 (Ok (Word 0x89ABCDEF)) ≡ ascii "10 v89abcdef\n"
+  pub refusal : line 5 (Err NoToken) ≡ ascii "5 r5\n"
+  pub longest : line 21845 (Err ShortBuffer) ≡ ascii "21845 r20\n"
   -- whom a deliver served, and the largest numbers of a byte: both decimal, with no zero in front
-  pub served : line 3 (Accepted (Served 3 10)) ≡ ascii "3 d3.10\n"
-  pub served_largest : line 21845 (Accepted (Served 255 255)) ≡ ascii "21845 d255.255\n"
+  pub served : line 3 (Ok (Served 3 10)) ≡ ascii "3 d3.10\n"
+  pub served_largest : line 21845 (Ok (Served 255 255)) ≡ ascii "21845 d255.255\n"
   -- "It uses the first 65,536 bytes": of any input as long or longer those, and of a shorter one all
   pub used : (front rest : List ℕ) → length front ≡ 65536 → used_input (front ++ rest) ≡ front
   pub used_all : (input : List ℕ) → length input ≤ 65536 → used_input input ≡ input

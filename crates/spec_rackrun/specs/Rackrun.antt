@@ -1,9 +1,8 @@
 -- Document 01, "Program rackrun": the line that the program writes of a reply, and the text that it writes for its input.
-use Rattle.std.specs.Prelude.{ℕ, zero, suc, ◌+◌, ◌/◌, ◌%◌, cond, List, [], ◌∷◌, ◌++◌, ltb, length, get_or, take, drop}
+use Rattle.std.specs.Prelude.{ℕ, zero, suc, ◌+◌, ◌/◌, ◌%◌, cond, List, [], ◌∷◌, ◌++◌, ltb, length, get_or, take, drop, Ok, Err}
 use Rattle.spec_wire.specs.Refusals.{number}
 use Rattle.spec_rack.specs.declared.Answer.TheVariants.{Done, Word, Served}
-use Rattle.spec_rack.specs.declared.Reply.{Reply}
-use Rattle.spec_rack.specs.declared.Reply.TheVariants.{Accepted, Refused}
+use Rattle.spec_rack.specs.Replies.{Reply}
 use Rattle.spec_wire.specs.declared.Refusal.TheVariants.{Torn}
 use Rattle.spec_rack.specs.Opening.{open_reply, open_after}
 use Rattle.spec_wire.specs.Frames.{frames}
@@ -26,10 +25,10 @@ digits b (suc k) n = digits b k (n / b) ++ digit (n % b) ∷ []
 -- `ok`, `v` with eight hexadecimal digits, `r` with the refusal's number, or `d` with the component and the block of a deliver, a point between them
 -- (document 02, No. 1)
 unfoldable pub reply_text : Reply → List ℕ
-reply_text (Accepted Done) = 111 ∷ 107 ∷ []
-reply_text (Accepted (Word w)) = 118 ∷ digits 16 8 w
-reply_text (Accepted (Served c b)) = 100 ∷ (decimal 2 c ++ 46 ∷ decimal 2 b)
-reply_text (Refused r) = 114 ∷ decimal 1 (number r)
+reply_text (Ok Done) = 111 ∷ 107 ∷ []
+reply_text (Ok (Word w)) = 118 ∷ digits 16 8 w
+reply_text (Ok (Served c b)) = 100 ∷ (decimal 2 c ++ 46 ∷ decimal 2 b)
+reply_text (Err r) = 114 ∷ decimal 1 (number r)
 
 -- the text of a reply, and a newline
 abbrev pub reply_line : Reply → List ℕ
@@ -50,12 +49,12 @@ used_input input = take 65536 input
 
 -- the steps' lines, where the opening was accepted
 abbrev pub step_lines : Reply → List ℕ → List ℕ → List ℕ
-step_lines (Accepted a) s list = lines 1 (replies s (frames 65536 list))
-step_lines (Refused r) s list = []
+step_lines (Ok a) s list = lines 1 (replies s (frames 65536 list))
+step_lines (Err r) s list = []
 
 -- the reply to the opening with N, B and T, the first three bytes, of a record in the buffer s; under three bytes it is torn
 unfoldable pub opening_reply : List ℕ → List ℕ → Reply
-opening_reply s u = cond (ltb (length u) 3) (Refused Torn) (open_reply (get_or u 0 0) (get_or u 1 0) (get_or u 2 0) s)
+opening_reply s u = cond (ltb (length u) 3) (Err Torn) (open_reply (get_or u 0 0) (get_or u 1 0) (get_or u 2 0) s)
 
 -- what the buffer holds after the opening
 unfoldable pub opening_after : List ℕ → List ℕ → List ℕ
@@ -63,8 +62,8 @@ opening_after s u = cond (ltb (length u) 3) s (open_after (get_or u 0 0) (get_or
 
 -- where the steps start in an input of so many bytes
 abbrev pub steps_offset : Reply → ℕ → ℕ
-steps_offset (Accepted a) count = 3
-steps_offset (Refused r) count = count
+steps_offset (Ok a) count = 3
+steps_offset (Err r) count = count
 
 -- the whole text, with a record in the buffer s: the opening's line, then the records'
 unfoldable pub text : List ℕ → List ℕ → List ℕ
@@ -74,8 +73,8 @@ text s input =
 
 -- the record after the steps, where the opening was accepted
 abbrev pub after_steps : Reply → List ℕ → List ℕ → List ℕ
-after_steps (Accepted a) s list = after s (frames 65536 list)
-after_steps (Refused r) s list = s
+after_steps (Ok a) s list = after s (frames 65536 list)
+after_steps (Err r) s list = s
 
 -- what the buffer s holds after the run
 unfoldable pub record_after_run : List ℕ → List ℕ → List ℕ

@@ -1,12 +1,11 @@
 -- Document 01, "Program rackrun": the text of an input by the rules alone, with no buffer; and that the program's text is that one.
-use Rattle.std.specs.Prelude.{ℕ, ◌≤◌, ◌≡◌, cond, List, [], ◌++◌, length, get_or, drop, ltb}
+use Rattle.std.specs.Prelude.{ℕ, ◌≤◌, ◌≡◌, cond, List, [], ◌++◌, length, get_or, drop, ltb, Ok, Err}
 use Rattle.spec_base.specs.Number.{Bytes}
 use Rattle.spec_wire.specs.declared.Refusal.TheVariants.{Torn}
-use Rattle.spec_wire.specs.declared.Reading.{Reading}
-use Rattle.spec_wire.specs.declared.Reading.TheVariants.{Step, Refused}
+use Rattle.spec_rack.specs.Replies.{Reply}
+use Rattle.spec_wire.specs.Answers.{Reading}
 use Rattle.spec_wire.specs.Reader.{read_record}
 use Rattle.spec_wire.specs.Frames.{frames}
-use Rattle.spec_rack.specs.declared.Reply.{Reply}
 use Rattle.spec_rack.specs.Rack.{Rack}
 use Rattle.spec_rack.specs.Rules.{Outcome, refused, accepted, rules, opening, rack_after, reply}
 use Rattle.spec_rack.specs.RecordLayout.{longest_record}
@@ -16,8 +15,8 @@ use Rattle.spec_rackrun.specs.Rackrun.{line, lines, used_input, text}
 
 -- what was read, given to a rack: what is no step is refused
 abbrev pub ruled : Rack → Reading → Outcome
-ruled r (Step t) = rules r t
-ruled r (Refused n) = refused n
+ruled r (Ok t) = rules r t
+ruled r (Err n) = refused n
 
 -- the replies to byte strings, one after the other
 abbrev pub ruled_replies : Rack → List (List ℕ) → List Reply

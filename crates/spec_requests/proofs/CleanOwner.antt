@@ -9,15 +9,14 @@ use Rattle.spec_base.specs.Folds.{implies, remove_at}
 use Rattle.spec_base.proofs.Tests.{differs, and_l, and_r, and_left, and_right, or_l, or_right, not_of_true}
 use Rattle.spec_wire.specs.declared.Refusal.{Refusal}
 use Rattle.spec_wire.specs.declared.Refusal.TheVariants.{OffRack, NoData, SelfSend, Claimed, Empty, NotHeld, BareOwner, MeshFull}
-use Rattle.spec_wire.specs.declared.Check.{Check}
-use Rattle.spec_wire.specs.declared.Check.TheVariants.{Pass}
+use Rattle.std.specs.Prelude.{Err}
+use Rattle.spec_wire.specs.Answers.{Check, no_refusal}
 use Rattle.spec_wire.specs.Refusals.{when◌refuse◌else◌}
 use Rattle.spec_wire.specs.declared.Step.{Step}
 use Rattle.spec_wire.specs.declared.Step.TheVariants.{Load, Store, Send, Deliver, Raise, Lower, Forward}
 use Rattle.spec_rack.specs.declared.Owner.{Owner}
 use Rattle.spec_rack.specs.declared.Owner.TheVariants.{Clean, Dirty}
 use Rattle.spec_rack.specs.declared.Answer.{Answer}
-use Rattle.spec_rack.specs.declared.Reply.TheVariants.{Refused}
 use Rattle.spec_rack.specs.Rack.{Cell, Rack, no_cell, no_message, fresh, block_at, cell_at, message_at, present, may_go_bare}
 use Rattle.spec_rack.specs.Soundness.{sound_contents, sound, sizes}
 use Rattle.spec_rack.specs.Rules.{Outcome, accepted, settled, check, after, answer, rules, sent, with_tokens, delivered, off_rack, reply, rack_after}
@@ -45,7 +44,7 @@ lines refusal off self claimed none short bare stale full =
     when bare refuse refusal else
     when stale refuse NoData else
     when full refuse MeshFull else
-    Pass
+    no_refusal
 
 -- ---- a send of a clean owner to home
 
@@ -94,7 +93,7 @@ step_same r (Forward c b) e = refl
 module _ (answered : Answer) (r : Rack) where
   -- only its line refuses with 12
   by_12 : (off self claimed none short bare stale full : Bool)
-      → reply (settled (lines BareOwner off self claimed none short bare stale full) answered r) ≡ Refused BareOwner → bare ≡ true
+      → reply (settled (lines BareOwner off self claimed none short bare stale full) answered r) ≡ Err BareOwner → bare ≡ true
   unfolding when◌refuse◌else◌
   by_12 true self claimed none short bare stale full e = cc
   by_12 false true claimed none short bare stale full e = cc

@@ -14,8 +14,9 @@ use Rattle.spec_base.proofs.Tests.{either, differs, or_l}
 use Rattle.spec_base.proofs.Folds.{sum_at}
 use Rattle.spec_wire.specs.declared.Refusal.{Refusal}
 use Rattle.spec_wire.specs.declared.Refusal.TheVariants.{OffRack, Home, Unsound, Short, NoData, SelfSend, Claimed, Empty, NotHeld, BareOwner, MeshFull}
-use Rattle.spec_wire.specs.declared.Check.{Check}
-use Rattle.spec_wire.specs.declared.Check.TheVariants.{Pass, Refuse}
+use Rattle.std.specs.Prelude.{Ok, Err}
+use Rattle.spec_rack.specs.Replies.{Lettered}
+use Rattle.spec_wire.specs.Answers.{Check, no_refusal}
 use Rattle.spec_wire.specs.declared.Step.{Step}
 use Rattle.spec_wire.specs.declared.Step.TheVariants.{Store, Send}
 use Rattle.spec_wire.specs.Refusals.{when◌refuse◌else◌}
@@ -23,11 +24,8 @@ use Rattle.spec_rack.specs.declared.Owner.{Owner}
 use Rattle.spec_rack.specs.declared.Owner.TheVariants.{Dirty}
 use Rattle.spec_rack.specs.declared.Answer.{Answer}
 use Rattle.spec_rack.specs.declared.Answer.TheVariants.{Done}
-use Rattle.spec_rack.specs.declared.Reply.TheVariants.{Accepted}
 use Rattle.spec_rack.specs.declared.Letter.{Letter}
 use Rattle.spec_rack.specs.declared.Letter.TheVariants.{M, O, E, S, I}
-use Rattle.spec_rack.specs.declared.Lettered.{Lettered}
-use Rattle.spec_rack.specs.declared.Lettered.TheVariants as Lettered
 use Rattle.spec_rack.specs.Rack.{Cell, Rack, no_cell, is_home, present, clean, owners, may_go_bare, fresh, block_at, cell_at, held}
 use Rattle.spec_rack.specs.Rules.{settled, check, after, answer, rules, stored, with_word, off_rack, past_words, reply, rack_after}
 use Rattle.spec_rack.specs.FlatMemory.{Memory, blank, memory_after}
@@ -62,8 +60,8 @@ letter_before_lem t x = go (eqb (held x) t) (clean x.owner) (present x.owner) x.
     go false u false false = refl
 
 lettered_before : (k : Check) (l : Letter) → reply_without_e (lettered k l) ≡ lettered k (without_e l)
-lettered_before Pass l = refl
-lettered_before (Refuse n) l = refl
+lettered_before (Ok _) l = refl
+lettered_before (Err n) l = refl
 
 rack_before : (r : Rack) (c b : ℕ) → reply_without_e (letter r c b) ≡ letter_before r c b
 unfolding letter
@@ -75,22 +73,22 @@ bytes_before : (s : List ℕ) (c b : ℕ) → reply_without_e (letter_reply s c 
 unfolding letter_reply
 bytes_before s c b = go (sound_bytes s)
   where
-    go : (t : Bool) → reply_without_e (cond t (letter (get s) c b) (Lettered.Refused Unsound)) ≡ cond t (letter_before (get s) c b) (Lettered.Refused Unsound)
+    go : (t : Bool) → reply_without_e (cond t (letter (get s) c b) (Err Unsound)) ≡ cond t (letter_before (get s) c b) (Err Unsound)
     go true = rack_before (get s) c b
     go false = refl
 
 -- what such a reader sees, and what it was
-same_letter : (x : Lettered) (l : Letter) → (l ≡ M → ⊥) → reply_without_e x ≡ Lettered.Letter l → x ≡ Lettered.Letter l
-same_letter (Lettered.Letter M) l ne e = let was : l ≡ M = cc in absurd (ne was)
-same_letter (Lettered.Letter O) l ne e = e
-same_letter (Lettered.Letter E) l ne e = let was : l ≡ M = cc in absurd (ne was)
-same_letter (Lettered.Letter S) l ne e = e
-same_letter (Lettered.Letter I) l ne e = e
-same_letter (Lettered.Refused n) l ne e = cc
+same_letter : (x : Lettered) (l : Letter) → (l ≡ M → ⊥) → reply_without_e x ≡ Ok l → x ≡ Ok l
+same_letter (Ok M) l ne e = let was : l ≡ M = cc in absurd (ne was)
+same_letter (Ok O) l ne e = e
+same_letter (Ok E) l ne e = let was : l ≡ M = cc in absurd (ne was)
+same_letter (Ok S) l ne e = e
+same_letter (Ok I) l ne e = e
+same_letter (Err n) l ne e = cc
 
-same_refusal : (x : Lettered) (n : Refusal) → reply_without_e x ≡ Lettered.Refused n → x ≡ Lettered.Refused n
-same_refusal (Lettered.Letter l) n e = cc
-same_refusal (Lettered.Refused m) n e = e
+same_refusal : (x : Lettered) (n : Refusal) → reply_without_e x ≡ Err n → x ≡ Err n
+same_refusal (Ok l) n e = cc
+same_refusal (Err m) n e = e
 
 unmoved : (l : Letter) → (l ≡ M → ⊥) → (l ≡ E → ⊥) → without_e l ≡ l
 unmoved M m e = absurd (m refl)
@@ -106,7 +104,7 @@ as_before =
       rack = rack_before;
       bytes = bytes_before;
       still = λ s c b l ne e. same_letter (letter_reply s c b) l ne (bytes_before s c b ∙ e);
-      only = λ s c b l m e x. sym (bytes_before s c b) ∙ ap reply_without_e x ∙ ap Lettered.Letter (unmoved l m e);
+      only = λ s c b l m e x. sym (bytes_before s c b) ∙ ap reply_without_e x ∙ ap Ok (unmoved l m e);
       M-was-M = λ s c b x. sym (bytes_before s c b) ∙ ap reply_without_e x;
       E-was-M = λ s c b x. sym (bytes_before s c b) ∙ ap reply_without_e x;
       refused = λ s c b n x. sym (bytes_before s c b) ∙ ap reply_without_e x;
@@ -116,12 +114,12 @@ as_before =
 -- ---- where E and M are shown
 
 -- a letter that is given is that of the cell, and no check refused
-given : (k : Check) (l x : Letter) → lettered k l ≡ Lettered.Letter x → (k ≡ Pass) × (l ≡ x)
-given Pass l x e = (refl, cc)
-given (Refuse n) l x e = (cc, cc)
+given : (k : Check) (l x : Letter) → lettered k l ≡ Ok x → (k ≡ no_refusal) × (l ≡ x)
+given (Ok _) l x e = (refl, cc)
+given (Err n) l x e = (cc, cc)
 
 -- past the two lines of the letter's table
-past : (off home : Bool) → (when off refuse OffRack else when home refuse Home else Pass) ≡ Pass → (off ≡ false) × (home ≡ false)
+past : (off home : Bool) → (when off refuse OffRack else when home refuse Home else no_refusal) ≡ no_refusal → (off ≡ false) × (home ≡ false)
 unfolding when◌refuse◌else◌
 past true home e = (cc, cc)
 past false true e = (cc, cc)
@@ -132,15 +130,15 @@ module _ (r : Rack) (c b : ℕ) where
   cell = cell_at r b c
 
   -- a board and a block of the rack, and the cell's letter
-  letter_of_lem : (x : Letter) → Shows r c b x → (letter_check r c b ≡ Pass) × (letter_of r.tokens (cell_at r b c) ≡ x)
+  letter_of_lem : (x : Letter) → Shows r c b x → (letter_check r c b ≡ no_refusal) × (letter_of r.tokens (cell_at r b c) ≡ x)
   unfolding letter
   letter_of_lem x e = given (letter_check r c b) (letter_of r.tokens cell) x e
 
-  on_rack : letter_check r c b ≡ Pass → (off_rack r c b ≡ false) × (is_home c ≡ false)
+  on_rack : letter_check r c b ≡ no_refusal → (off_rack r c b ≡ false) × (is_home c ≡ false)
   unfolding letter_check
   on_rack e = past (off_rack r c b) (is_home c) e
 
-  shows : (x : Letter) → letter_check r c b ≡ Pass → letter_of r.tokens (cell_at r b c) ≡ x → Shows r c b x
+  shows : (x : Letter) → letter_check r c b ≡ no_refusal → letter_of r.tokens (cell_at r b c) ≡ x → Shows r c b x
   unfolding letter
   shows x k e = rw (k, e) refl
 
@@ -174,7 +172,7 @@ M-all t x e =
     (eqb-true (held x) t w.0, w.1)
 
 -- who holds T on a sound rack has the owner
-owner_of_all : (r : Rack) (c b : ℕ) → Sound r → letter_check r c b ≡ Pass → held (cell_at r b c) ≡ r.tokens → present (cell_at r b c).owner ≡ true
+owner_of_all : (r : Rack) (c b : ℕ) → Sound r → letter_check r c b ≡ no_refusal → held (cell_at r b c) ≡ r.tokens → present (cell_at r b c).owner ≡ true
 owner_of_all r c b s k e =
     let on = (on_rack r c b k).0 in
     owner_here r s c b (in_n r s c b on) (in_b r s c b on) (omega arith)
@@ -197,7 +195,7 @@ where_shown =
 
 -- past the lines of a store
 store_past : (r : Rack) (off home short : Bool) (a : Answer)
-    → reply (settled (when off refuse OffRack else when home refuse Home else when short refuse Short else Pass) Done r) ≡ Accepted a
+    → reply (settled (when off refuse OffRack else when home refuse Home else when short refuse Short else no_refusal) Done r) ≡ Ok a
     → (off ≡ false) × ((home ≡ false) × (short ≡ false))
 unfolding when◌refuse◌else◌
 store_past r true home short a e = (cc, (cc, cc))
@@ -206,9 +204,9 @@ store_past r false false true a e = (cc, (cc, cc))
 store_past r false false false a e = (refl, (refl, refl))
 
 -- an accepted step leaves the rack that it settles on
-settled_after : (r q : Rack) (k : Check) (x a : Answer) → reply (settled k x q) ≡ Accepted a → rack_after r (settled k x q) ≡ q
-settled_after r q Pass x a e = refl
-settled_after r q (Refuse n) x a e = cc
+settled_after : (r q : Rack) (k : Check) (x a : Answer) → reply (settled k x q) ≡ Ok a → rack_after r (settled k x q) ≡ q
+settled_after r q (Ok _) x a e = refl
+settled_after r q (Err n) x a e = cc
 
 -- E and M are T held
 store_all : (t : ℕ) (x : Cell) (l : Letter) → letter_of t x ≡ l → may_store l ≡ true → held x ≡ t
@@ -223,7 +221,7 @@ either_stores true = refl
 either_stores false = refl
 
 module _ (r : Rack) (c b w v : ℕ) where
-  accepts : w < 8 → CanStore r c b → ruled_reply r (Store c b w v) ≡ Accepted Done
+  accepts : w < 8 → CanStore r c b → ruled_reply r (Store c b w v) ≡ Ok Done
   unfolding rules check answer when◌refuse◌else◌
   accepts few can =
       let l = letter_of_lem r c b can.shown can.shows in
@@ -231,7 +229,7 @@ module _ (r : Rack) (c b w v : ℕ) where
       let all = store_all r.tokens (cell_at r b c) can.shown l.1 can.may in
       rw (on.0, le-ltb 7 w (omega arith), on.1, le-ltb (held (cell_at r b c)) r.tokens (omega arith)) refl
 
-  module _ (s : Sound r) (a : Answer) (e : ruled_reply r (Store c b w v) ≡ Accepted a) where
+  module _ (s : Sound r) (a : Answer) (e : ruled_reply r (Store c b w v) ≡ Ok a) where
     -- what its table tells
     lines_past : (off_rack r c b ≡ false) × ((is_home c ≡ false) × (ltb (held (cell_at r b c)) r.tokens ≡ false))
     unfolding rules check answer
@@ -239,7 +237,7 @@ module _ (r : Rack) (c b w v : ℕ) where
         let p = store_past (after r (Store c b w v)) (off_rack r c b || past_words w) (is_home c) (ltb (held (cell_at r b c)) r.tokens) a e in
         (or_l (off_rack r c b) (past_words w) p.0, p.1)
 
-    on_letter : letter_check r c b ≡ Pass
+    on_letter : letter_check r c b ≡ no_refusal
     unfolding letter_check when◌refuse◌else◌
     on_letter = rw (lines_past.0, lines_past.1.0) refl
 
@@ -278,7 +276,7 @@ module _ (r : Rack) (c b w v : ℕ) where
         ap (letter_of r.tokens) stored_cell
         ∙ with_all r.tokens (with_word (cell_at r b c) w v) same ∙ ap (λ (o : Owner). cond (clean o) E M) new_dirty
 
-    stored_on : letter_check (stored r c b w v) c b ≡ Pass
+    stored_on : letter_check (stored r c b w v) c b ≡ no_refusal
     unfolding letter_check stored
     stored_on = rw length-set on_letter
 
@@ -351,7 +349,7 @@ means_exclusive_bytes n b t s steps c k bytes e u =
     rw (ran.rack, ran.accesses)
     (after_list n b t (steps_of steps) ran.fits c k
     (ap (λ (r : Rack). letter r c k) (sym ran.rack)
-    ∙ ap (λ (z : Bool). cond z (letter (get last) c k) (Lettered.Refused Unsound)) (sym (sound_of last ran.live)) ∙ u))
+    ∙ ap (λ (z : Bool). cond z (letter (get last) c k) (Err Unsound)) (sym (sound_of last ran.live)) ∙ u))
 
 -- a send that passes every line
 send_past : (r : Rack) (off self claimed none short bare stale full : Bool) → off ≡ false → self ≡ false → claimed ≡ false → none ≡ false → short ≡ false
@@ -365,7 +363,7 @@ send_past : (r : Rack) (off self claimed none short bare stale full : Bool) → 
     when bare refuse BareOwner else
     when stale refuse NoData else
     when full refuse MeshFull else
-    Pass) Done r) ≡ Accepted Done
+    no_refusal) Done r) ≡ Ok Done
 unfolding when◌refuse◌else◌
 send_past r off self claimed none short bare stale full a b c d e f g h = rw (a, b, c, d, e, f, g, h) refl
 

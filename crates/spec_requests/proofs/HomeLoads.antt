@@ -13,18 +13,15 @@ use Rattle.spec_base.specs.Number.{Bytes}
 use Rattle.spec_base.proofs.Tests.{differs, either, or_none}
 use Rattle.spec_wire.specs.declared.Refusal.{Refusal}
 use Rattle.spec_wire.specs.declared.Refusal.TheVariants.{Unsound, OffRack, Home, NoToken, NoData}
-use Rattle.spec_wire.specs.declared.Check.{Check}
-use Rattle.spec_wire.specs.declared.Check.TheVariants.{Pass, Refuse}
+use Rattle.std.specs.Prelude.{Ok, Err}
+use Rattle.spec_rack.specs.Replies.{Reply}
+use Rattle.spec_wire.specs.Answers.{Check, Reading, no_refusal}
 use Rattle.spec_wire.specs.Refusals.{when◌refuse◌else◌}
 use Rattle.spec_wire.specs.declared.Step.{Step}
 use Rattle.spec_wire.specs.declared.Step.TheVariants.{Load, Store, Send, Deliver, Raise, Lower, Forward}
-use Rattle.spec_wire.specs.declared.Reading.{Reading}
-use Rattle.spec_wire.specs.declared.Reading.TheVariants.{Step as Read, Refused as NoStep}
 use Rattle.spec_wire.specs.Reader.{read_record}
 use Rattle.spec_rack.specs.declared.Answer.{Answer}
 use Rattle.spec_rack.specs.declared.Answer.TheVariants.{Word}
-use Rattle.spec_rack.specs.declared.Reply.{Reply}
-use Rattle.spec_rack.specs.declared.Reply.TheVariants.{Accepted, Refused}
 use Rattle.spec_rack.specs.Rack.{Cell, Rack, cell_at, held}
 use Rattle.spec_rack.specs.Rules.{Outcome, refused, settled, check, after, answer, rules, off_rack, past_words, reply, rack_after}
 use Rattle.spec_rack.specs.Letter.{letter_check, letter_of, lettered, letter}
@@ -49,8 +46,8 @@ word x w = Word (get_or x.words w 0)
 -- what is said of both, where `rest` has the lines below
 module _ (rest : Check) (a : Answer) (r : Rack) where
   still_accepted : (off home : Bool) (a' : Answer)
-      → reply (settled (when off refuse OffRack else when home refuse Home else rest) a r) ≡ Accepted a'
-      → reply (settled (when off refuse OffRack else rest) a r) ≡ Accepted a'
+      → reply (settled (when off refuse OffRack else when home refuse Home else rest) a r) ≡ Ok a'
+      → reply (settled (when off refuse OffRack else rest) a r) ≡ Ok a'
   unfolding when◌refuse◌else◌
   still_accepted true home a' e = e
   still_accepted false true a' e = cc
@@ -64,8 +61,8 @@ module _ (rest : Check) (a : Answer) (r : Rack) where
 
 -- a load leaves the rack, whatever its lines say
 leaves : (k : Check) (a : Answer) (r : Rack) → rack_after r (settled k a r) ≡ r
-leaves Pass a r = refl
-leaves (Refuse n) a r = refl
+leaves (Ok _) a r = refl
+leaves (Err n) a r = refl
 
 -- ---- one step, on a rack
 
@@ -86,10 +83,10 @@ step_left r =
     by_kind r (λ _ o o'. rack_after r o ≡ rack_after r o') (λ _ o. refl)
     (λ c b w. leaves (check r (Load c b w)) (answer r (Load c b w)) r ∙ sym (leaves (load_check_before r c b w) (word (cell_at r b c) w) r))
 
-step_answered : (r : Rack) (t : Step) (a : Answer) → ruled_reply_before r t ≡ Accepted a → ruled_reply r t ≡ Accepted a
+step_answered : (r : Rack) (t : Step) (a : Answer) → ruled_reply_before r t ≡ Ok a → ruled_reply r t ≡ Ok a
 unfolding rules check after answer
 step_answered r =
-    by_kind r (λ _ o o'. (a : Answer) → reply o' ≡ Accepted a → reply o ≡ Accepted a) (λ _ o a e. e)
+    by_kind r (λ _ o o'. (a : Answer) → reply o' ≡ Ok a → reply o ≡ Ok a) (λ _ o a e. e)
     (λ c b w. still_accepted _ (word (cell_at r b c) w) r (off_rack r c b || past_words w) (eqb c 0))
 
 step_other : (r : Rack) (t : Step) → is_home_load t ≡ false → rules r t ≡ rules_before r t
@@ -102,12 +99,12 @@ step_other r =
 
 -- the lines of a load, by whether it is off the rack and by its cell
 abbrev lines : Bool → Cell → ℕ → Check
-lines off x w = when off || past_words w refuse OffRack else when eqb (held x) 0 refuse NoToken else when not x.valid refuse NoData else Pass
+lines off x w = when off || past_words w refuse OffRack else when eqb (held x) 0 refuse NoToken else when not x.valid refuse NoData else no_refusal
 
 -- a reply does not tell the rack that is left
 pub any_rack : (k : Check) (a : Answer) (r r' : Rack) → reply (settled k a r) ≡ reply (settled k a r')
-any_rack Pass a r r' = refl
-any_rack (Refuse n) a r r' = refl
+any_rack (Ok _) a r r' = refl
+any_rack (Err n) a r r' = refl
 
 pub ordinary_load : OrdinaryLoad
 unfolding rules check answer after
@@ -119,8 +116,8 @@ ordinary_load r r' b b' c w board off same =
 -- ---- by the valid mark, which is only where a token is held
 
 by_valid : (r : Rack) (a : Answer) (off none valid : Bool) → off ≡ false → (valid ≡ true → none ≡ false)
-    → reply (settled (when off refuse OffRack else when none refuse NoToken else when not valid refuse NoData else Pass) a r)
-    ≡ cond valid (Accepted a) (Refused (cond none NoToken NoData))
+    → reply (settled (when off refuse OffRack else when none refuse NoToken else when not valid refuse NoData else no_refusal) a r)
+    ≡ cond valid (Ok a) (Err (cond none NoToken NoData))
 unfolding when◌refuse◌else◌
 by_valid r a true none valid on token = differs on
 by_valid r a false true true on token = differs (token refl)
@@ -143,7 +140,7 @@ valid_loads r c b w ok on low =
 module _ {S I : Type 0} (after afterBefore : S → I → S) (reply reply_before : S → I → Reply) (homeLoad : I → Bool)
     (P : S → Type 0) (kept : (s : S) (x : I) → P s → P (after s x))
     (left : (s : S) (x : I) → P s → after s x ≡ afterBefore s x)
-    (answered : (s : S) (x : I) (a : Answer) → reply_before s x ≡ Accepted a → reply s x ≡ Accepted a)
+    (answered : (s : S) (x : I) (a : Answer) → reply_before s x ≡ Ok a → reply s x ≡ Ok a)
     (other : (s : S) (x : I) → homeLoad x ≡ false → reply s x ≡ reply_before s x) where
   same_list : (items : List I) (s : S) → P s → SameList after afterBefore reply reply_before homeLoad s items
   unfolding run_all
@@ -153,7 +150,7 @@ module _ {S I : Type 0} (after afterBefore : S → I → S) (reply reply_before 
       let same = left s x ok in
       record {
         state = rest.state ∙ ap (λ (q : S). run_all afterBefore q xs) same;
-        answered = λ y a e. rest.answered y a (subst (λ (q : S). reply_before (run_all afterBefore q xs) y ≡ Accepted a) (sym same) e);
+        answered = λ y a e. rest.answered y a (subst (λ (q : S). reply_before (run_all afterBefore q xs) y ≡ Ok a) (sym same) e);
         others = λ y e. rest.others y e ∙ ap (λ (q : S). reply_before (run_all afterBefore q xs) y) same;
       }
 
@@ -166,8 +163,8 @@ same_on_racks r ss =
 
 -- to write the rack that is there changes nothing
 writes_nothing : (s : List ℕ) → put (get s) s ≡ s → (k : Check) (a : Answer) → buffer_after_outcome s (settled k a (get s)) ≡ s
-writes_nothing s same Pass a = same
-writes_nothing s same (Refuse n) a = refl
+writes_nothing s same (Ok _) a = same
+writes_nothing s same (Err n) a = refl
 
 module _ (s : List ℕ) where
   step_writes : put (get s) s ≡ s → (t : Step) → buffer_after_outcome s (rules (get s) t) ≡ buffer_after_outcome s (rules_before (get s) t)
@@ -180,31 +177,31 @@ module _ (s : List ℕ) where
 
   by_reading : (k : Reading) → (sound_bytes s ≡ true → put (get s) s ≡ s)
       → buffer_after_outcome s (outcome_by rules k s) ≡ buffer_after_outcome s (outcome_by rules_before k s)
-  by_reading (NoStep n) same = refl
-  by_reading (Read t) same = go (sound_bytes s) refl
+  by_reading (Err n) same = refl
+  by_reading (Ok t) same = go (sound_bytes s) refl
     where
       go : (u : Bool) → sound_bytes s ≡ u
           → buffer_after_outcome s (cond u (rules (get s) t) (refused Unsound)) ≡ buffer_after_outcome s (cond u (rules_before (get s) t) (refused Unsound))
       go true e = step_writes (same e) t
       go false e = refl
 
-  reading_answered : (k : Reading) (a : Answer) → reply (outcome_by rules_before k s) ≡ Accepted a → reply (outcome_by rules k s) ≡ Accepted a
-  reading_answered (NoStep n) a e = e
-  reading_answered (Read t) a e = go (sound_bytes s) e
+  reading_answered : (k : Reading) (a : Answer) → reply (outcome_by rules_before k s) ≡ Ok a → reply (outcome_by rules k s) ≡ Ok a
+  reading_answered (Err n) a e = e
+  reading_answered (Ok t) a e = go (sound_bytes s) e
     where
-      go : (u : Bool) → reply (cond u (rules_before (get s) t) (refused Unsound)) ≡ Accepted a → reply (cond u (rules (get s) t) (refused Unsound)) ≡ Accepted a
+      go : (u : Bool) → reply (cond u (rules_before (get s) t) (refused Unsound)) ≡ Ok a → reply (cond u (rules (get s) t) (refused Unsound)) ≡ Ok a
       go true e = step_answered (get s) t a e
       go false e = e
 
   reading_other : (k : Reading) → is_home_load_in k ≡ false → reply (outcome_by rules k s) ≡ reply (outcome_by rules_before k s)
-  reading_other (NoStep n) e = refl
-  reading_other (Read t) e = ap (λ (o : Outcome). reply (cond (sound_bytes s) o (refused Unsound))) (step_other (get s) t e)
+  reading_other (Err n) e = refl
+  reading_other (Ok t) e = ap (λ (o : Outcome). reply (cond (sound_bytes s) o (refused Unsound))) (step_other (get s) t e)
 
 bytes_left : (s bytes : List ℕ) → Bytes s → step_after s bytes ≡ step_after_before s bytes
 unfolding step_after
 bytes_left s bytes ok = by_reading s (read_record bytes) (λ sound. put_get s (live_of s ok sound).well_formed)
 
-bytes_answered : (s bytes : List ℕ) (a : Answer) → step_reply_before s bytes ≡ Accepted a → step_reply s bytes ≡ Accepted a
+bytes_answered : (s bytes : List ℕ) (a : Answer) → step_reply_before s bytes ≡ Ok a → step_reply s bytes ≡ Ok a
 unfolding step_reply
 bytes_answered s bytes a = reading_answered s (read_record bytes) a
 
@@ -229,13 +226,13 @@ same_on_bytes s steps ok =
 -- ---- what home is still refused
 
 -- at home the second test of the table passes, so the first decides
-at_home : (off : Bool) (rest : Check) → (when off refuse OffRack else when true refuse Home else rest) ≡ Refuse (cond off OffRack Home)
+at_home : (off : Bool) (rest : Check) → (when off refuse OffRack else when true refuse Home else rest) ≡ Err (cond off OffRack Home)
 unfolding when◌refuse◌else◌
 at_home true rest = refl
 at_home false rest = refl
 
 -- a step whose check refuses it is refused
-refused_with : {n : Refusal} (r : Rack) (t : Step) → check r t ≡ Refuse n → ruled_reply r t ≡ Refused n
+refused_with : {n : Refusal} (r : Rack) (t : Step) → check r t ≡ Err n → ruled_reply r t ≡ Err n
 unfolding rules
 refused_with r t e = ap (λ (k : Check). reply (settled k (answer r t) (after r t))) e
 

@@ -8,17 +8,15 @@ use borrow.Author.Tests.{leb-false}
 use lib.ListN.{length}
 use Rattle.spec_base.proofs.Tests.{differs}
 use Rattle.spec_wire.specs.declared.Refusal.TheVariants.{NoMessage}
-use Rattle.spec_wire.specs.declared.Check.{Check}
-use Rattle.spec_wire.specs.declared.Check.TheVariants.{Pass, Refuse}
+use Rattle.std.specs.Prelude.{Ok, Err}
+use Rattle.spec_wire.specs.Answers.{Check, no_refusal}
 use Rattle.spec_wire.specs.declared.Step.{Step}
 use Rattle.spec_wire.specs.declared.Step.TheVariants.{Load, Store, Send, Deliver, Raise, Lower, Forward}
 use Rattle.spec_wire.specs.Refusals.{when◌refuse◌else◌}
-use Rattle.spec_wire.specs.declared.Reading.TheVariants.{Step as Read}
 use Rattle.spec_wire.specs.Reader.{read_record}
 use Rattle.spec_base.specs.Folds.{remove_at}
 use Rattle.spec_rack.specs.declared.Answer.{Answer}
 use Rattle.spec_rack.specs.declared.Answer.TheVariants.{Done, Word, Served}
-use Rattle.spec_rack.specs.declared.Reply.TheVariants.{Accepted}
 use Rattle.spec_rack.specs.declared.Message.{Message}
 use Rattle.spec_rack.specs.Rack.{Cell, Rack, cell_at, message_at, held}
 use Rattle.spec_rack.specs.Rules.{with_tokens, delivered, past_mesh, accepted, settled, check, answer, after, rules, reply, reply_of}
@@ -72,7 +70,7 @@ unfolding rules check answer after when◌refuse◌else◌
 whom r s i a r' = go (past_mesh r i) refl
   where
     go : (t : Bool) → past_mesh r i ≡ t
-        → settled (when t refuse NoMessage else Pass) (Served (message_at r i).header.target (message_at r i).header.block) (delivered r i) ≡ accepted a r'
+        → settled (when t refuse NoMessage else no_refusal) (Served (message_at r i).header.target (message_at r i).header.block) (delivered r i) ≡ accepted a r'
         → Names r i a r'
     go true e q = let none : true ≡ false = cc in differs none
     go false e q =
@@ -106,14 +104,14 @@ is_served (Served c b) = true
 
 module _ (s bytes : List ℕ) (c b : ℕ) where
   the_answer : {a : Answer} (k : Check) (r : Rack) {r' : Rack} → settled k a r ≡ accepted (Served c b) r' → a ≡ Served c b
-  the_answer Pass r q = cc
-  the_answer (Refuse n) r q = cc
+  the_answer (Ok _) r q = cc
+  the_answer (Err n) r q = cc
 
   not_served : {X : Type 0} {a : Answer} → a ≡ Served c b → is_served a ≡ false → X
   not_served said other = differs (sym (ap is_served said) ∙ other)
 
   -- only a deliver says whom it served
-  by_step : (t : Step) → read_record bytes ≡ Read t → sound_bytes s ≡ true → rules (get s) t ≡ accepted (Served c b) (get (step_after s bytes))
+  by_step : (t : Step) → read_record bytes ≡ Ok t → sound_bytes s ≡ true → rules (get s) t ≡ accepted (Served c b) (get (step_after s bytes))
       → answer (get s) t ≡ Served c b → ServedBy s bytes c b
   unfolding answer
   by_step (Deliver i) e h q said = record { position = i; read = e; serves = named_one (get s) i c b _ (whom (get s) (rack_sound s h) i (Served c b) (get (step_after s bytes)) q) }
@@ -133,11 +131,11 @@ every_served s bytes c b h told = by_rules s bytes c b ((every_step s bytes h).i
 
 -- ---- all else is as it was
 
-without_served_lem : (k : Check) (a a' : Answer) (r : Rack) → without_served (Accepted a) ≡ Accepted a' → without_served (reply (settled k a r)) ≡ reply (settled k a' r)
-without_served_lem Pass a a' r e = e
-without_served_lem (Refuse n) a a' r e = refl
+without_served_lem : (k : Check) (a a' : Answer) (r : Rack) → without_served (Ok a) ≡ Ok a' → without_served (reply (settled k a r)) ≡ reply (settled k a' r)
+without_served_lem (Ok _) a a' r e = e
+without_served_lem (Err n) a a' r e = refl
 
-answer_before_lem : (r : Rack) (s : Step) → without_served (Accepted (answer r s)) ≡ Accepted (answer_before r s)
+answer_before_lem : (r : Rack) (s : Step) → without_served (Ok (answer r s)) ≡ Ok (answer_before r s)
 unfolding answer
 answer_before_lem r (Load c b w) = refl
 answer_before_lem r (Store c b w v) = refl
@@ -170,13 +168,13 @@ unfolding replies_of
 list_before r [] = refl
 list_before r (s ∷ ss) = λ j. step_before r s j ∷ list_before (ruled_after r s) ss j
 
-opening_before : (n b t : ℕ) (s : List ℕ) (a : Answer) → open_reply n b t s ≡ Accepted a → a ≡ Done
+opening_before : (n b t : ℕ) (s : List ℕ) (a : Answer) → open_reply n b t s ≡ Ok a → a ≡ Done
 unfolding open_reply
 opening_before n b t s a = by (open_check n b t (length s))
   where
-    by : (k : Check) → reply_of k ≡ Accepted a → a ≡ Done
-    by Pass e = cc
-    by (Refuse m) e = cc
+    by : (k : Check) → reply_of k ≡ Ok a → a ≡ Done
+    by (Ok _) e = cc
+    by (Err m) e = cc
 
 pub as_before : AsBefore
 as_before = record { step = step_before; other_step = other_before; list = list_before; opening = opening_before }

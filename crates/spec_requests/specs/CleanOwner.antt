@@ -1,12 +1,12 @@
 -- Document 02, No. 2: a clean owner may go home bare, that is without data. The definitions are in Rack.antt (the mark), Rules.antt (what a store, a send and
 -- a deliver do with it; line 12 of a send) and Soundness.antt; here is what they mean for a sender, for home and for the flat memory, and what stays of
 -- document 01.
-use Rattle.std.specs.Prelude.{ℕ, ◌+◌, ◌<◌, ◌≡◌, Bool, true, false, not, cond, ◌&&◌, ◌||◌, List, [], ◌∷◌, map, length, get_or, eqb, ltb}
+use Rattle.std.specs.Prelude.{ℕ, ◌+◌, ◌<◌, ◌≡◌, Bool, true, false, not, cond, ◌&&◌, ◌||◌, List, [], ◌∷◌, map, length, get_or, eqb, ltb, Ok, Err}
 use Rattle.spec_base.specs.Folds.{toℕ, implies, remove_at}
 use Rattle.spec_base.specs.Number.{Bytes}
 use Rattle.spec_wire.specs.declared.Refusal.TheVariants.{OffRack, NoData, SelfSend, Claimed, Empty, NotHeld, BareOwner, MeshFull, NoMessage}
-use Rattle.spec_wire.specs.declared.Check.{Check}
-use Rattle.spec_wire.specs.declared.Check.TheVariants.{Pass}
+use Rattle.spec_rack.specs.Replies.{Reply}
+use Rattle.spec_wire.specs.Answers.{Check, no_refusal}
 use Rattle.spec_wire.specs.Refusals.{when◌refuse◌else◌}
 use Rattle.spec_wire.specs.declared.Step.{Step}
 use Rattle.spec_wire.specs.declared.Step.TheVariants.{Load, Store, Send, Deliver, Raise, Lower, Forward}
@@ -15,11 +15,9 @@ use Rattle.spec_rack.specs.declared.Owner.TheVariants.{Dirty, Clean}
 use Rattle.spec_rack.specs.declared.Message.{Message}
 use Rattle.spec_rack.specs.declared.Answer.TheVariants.{Done}
 use Rattle.spec_rack.specs.declared.Answer.{Answer}
-use Rattle.spec_rack.specs.declared.Reply.{Reply}
-use Rattle.spec_rack.specs.declared.Reply.TheVariants.{Accepted, Refused}
 use Rattle.spec_rack.specs.Rack.{Cell, Rack, fresh, present, clean, may_go_bare, claims_at, cell_at, message_at}
 use Rattle.spec_rack.specs.Soundness.{sound_contents, sound_message, sound}
-use Rattle.spec_rack.specs.Rules.{Outcome, accepted, settled, opening, rules, message, sent, joined_owner, with_cell, answer, off_rack, mesh_full, past_mesh, reply, rack_after}
+use Rattle.spec_rack.specs.Rules.{Outcome, accepted, settled, opening, rules, sent, joined_owner, with_cell, answer, off_rack, mesh_full, past_mesh, reply, rack_after}
 use Rattle.spec_rack.specs.FlatMemory.{blank, memory_after}
 use Rattle.spec_rack.specs.RecordLayout.{get}
 use Rattle.spec_rack.specs.Opening.{open_reply, open_after}
@@ -39,7 +37,7 @@ send_check_before r c b t p o d =
     when o && not d refuse BareOwner else
     when d && not (cell_at r b c).valid refuse NoData else
     when mesh_full r refuse MeshFull else
-    Pass
+    no_refusal
 
 abbrev pub with_tokens_before : Cell → Message → Cell
 with_tokens_before x m =
@@ -61,7 +59,7 @@ abbrev pub rules_before_bare : Rack → Step → Outcome
 rules_before_bare r (Load c b w) = rules r (Load c b w)
 rules_before_bare r (Store c b w v) = rules r (Store c b w v)
 rules_before_bare r (Send c b t p o d) = settled (send_check_before r c b t p o d) Done (sent r c b t p o d)
-rules_before_bare r (Deliver i) = settled (when past_mesh r i refuse NoMessage else Pass) (answer r (Deliver i)) (delivered_before r i)
+rules_before_bare r (Deliver i) = settled (when past_mesh r i refuse NoMessage else no_refusal) (answer r (Deliver i)) (delivered_before r i)
 rules_before_bare r (Raise c b) = rules r (Raise c b)
 rules_before_bare r (Lower c b) = rules r (Lower c b)
 rules_before_bare r (Forward c b) = rules r (Forward c b)
@@ -79,11 +77,11 @@ pub record BareSends : Type 0 where
   pub home : (r : Rack) (c b p : ℕ) → sound r ≡ true → (cell_at r b c).owner ≡ Clean
       → ruled_reply r (Send c b 0 p true false) ≡ ruled_reply r (Send c b 0 p true true)
   -- 12 is given where document 01 gave it, unless the owner may go bare,
-  pub given : (r : Rack) (c b t p : ℕ) (o d : Bool) → reply_before_bare r (Send c b t p o d) ≡ Refused BareOwner → may_go_bare (cell_at r b c).owner t ≡ false
-      → ruled_reply r (Send c b t p o d) ≡ Refused BareOwner
+  pub given : (r : Rack) (c b t p : ℕ) (o d : Bool) → reply_before_bare r (Send c b t p o d) ≡ Err BareOwner → may_go_bare (cell_at r b c).owner t ≡ false
+      → ruled_reply r (Send c b t p o d) ≡ Err BareOwner
   -- and nowhere else
-  pub only : (r : Rack) (c b t p : ℕ) (o d : Bool) → ruled_reply r (Send c b t p o d) ≡ Refused BareOwner
-      → (reply_before_bare r (Send c b t p o d) ≡ Refused BareOwner) × (may_go_bare (cell_at r b c).owner t ≡ false)
+  pub only : (r : Rack) (c b t p : ℕ) (o d : Bool) → ruled_reply r (Send c b t p o d) ≡ Err BareOwner
+      → (reply_before_bare r (Send c b t p o d) ≡ Err BareOwner) × (may_go_bare (cell_at r b c).owner t ≡ false)
 
 -- ---- what home has once the owner is delivered there
 
@@ -115,7 +113,7 @@ CleanHome =
 -- The same of every list of byte strings, of the record that it leaves.
 abbrev pub CleanHomeBytes : Type 0
 CleanHomeBytes =
-    (n b t : ℕ) (s : List ℕ) (steps : List (List ℕ)) → Bytes s → open_reply n b t s ≡ Accepted Done → (k : ℕ) → k < b
+    (n b t : ℕ) (s : List ℕ) (steps : List (List ℕ)) → Bytes s → open_reply n b t s ≡ Ok Done → (k : ℕ) → k < b
     → CleanIn (get (after (open_after n b t s) steps)) k
     → (cell_at (get (after (open_after n b t s) steps)) k 0).words ≡ get_or (memory_after (blank b) (accesses (open_after n b t s) steps)) k []
 

@@ -1,21 +1,19 @@
 -- Document 02, No. 4: the letter E. The definition is `letter_of` in Letter.antt; here is where E and M are shown, what a board has that shows E, and that O,
 -- S, I and the refusals are given where they were before.
-use Rattle.std.specs.Prelude.{ℕ, ◌≤◌, ◌<◌, ◌≡◌, Bool, true, false, cond, List, [], length, get_or, eqb}
+use Rattle.std.specs.Prelude.{ℕ, ◌≤◌, ◌<◌, ◌≡◌, Bool, true, false, cond, List, [], length, get_or, eqb, Ok, Err}
 use Rattle.spec_base.specs.Number.{Bytes}
 use Rattle.spec_wire.specs.declared.Refusal.{Refusal}
 use Rattle.spec_wire.specs.declared.Refusal.TheVariants.{Unsound}
-use Rattle.spec_wire.specs.declared.Check.TheVariants.{Pass}
+use Rattle.spec_rack.specs.Replies.{Lettered}
+use Rattle.spec_wire.specs.Answers.{no_refusal}
 use Rattle.spec_wire.specs.declared.Step.{Step}
 use Rattle.spec_wire.specs.declared.Step.TheVariants.{Store, Send}
 use Rattle.spec_arbiter.specs.Claims.{unclaimed}
 use Rattle.spec_rack.specs.declared.Owner.TheVariants.{Clean, Dirty}
 use Rattle.spec_rack.specs.declared.Answer.{Answer}
 use Rattle.spec_rack.specs.declared.Answer.TheVariants.{Done}
-use Rattle.spec_rack.specs.declared.Reply.TheVariants.{Accepted}
 use Rattle.spec_rack.specs.declared.Letter.{Letter}
 use Rattle.spec_rack.specs.declared.Letter.TheVariants.{M, O, E, S, I}
-use Rattle.spec_rack.specs.declared.Lettered.{Lettered}
-use Rattle.spec_rack.specs.declared.Lettered.TheVariants as Lettered
 use Rattle.spec_rack.specs.Rack.{Cell, Rack, present, claims_at, cell_at, message_at, held}
 use Rattle.spec_rack.specs.Soundness.{sound, sound_bytes}
 use Rattle.spec_rack.specs.Rules.{accepted, opening, mesh_full}
@@ -27,14 +25,14 @@ use Rattle.spec_rack.specs.Lists.{ruled_reply, ruled_after, run, rack_accesses, 
 
 -- board c shows letter l for block b
 abbrev pub Shows : Rack → ℕ → ℕ → Letter → Type 0
-Shows r c b l = letter r c b ≡ Lettered.Letter l
+Shows r c b l = letter r c b ≡ Ok l
 
 -- ---- where E and M are shown
 
 pub record WhereShown : Type 0 where
   -- of a board and a block of the rack that no check refuses, where the board has all tokens: by the owner's mark
-  pub clean : (r : Rack) (c b : ℕ) → letter_check r c b ≡ Pass → held (cell_at r b c) ≡ r.tokens → (cell_at r b c).owner ≡ Clean → Shows r c b E
-  pub dirty : (r : Rack) (c b : ℕ) → letter_check r c b ≡ Pass → held (cell_at r b c) ≡ r.tokens → (cell_at r b c).owner ≡ Dirty → Shows r c b M
+  pub clean : (r : Rack) (c b : ℕ) → letter_check r c b ≡ no_refusal → held (cell_at r b c) ≡ r.tokens → (cell_at r b c).owner ≡ Clean → Shows r c b E
+  pub dirty : (r : Rack) (c b : ℕ) → letter_check r c b ≡ no_refusal → held (cell_at r b c) ≡ r.tokens → (cell_at r b c).owner ≡ Dirty → Shows r c b M
   -- and nowhere else. On a sound rack a board with all tokens has the owner, so there is no third case.
   pub only_clean : (r : Rack) (c b : ℕ) → Shows r c b E → (held (cell_at r b c) ≡ r.tokens) × ((cell_at r b c).owner ≡ Clean)
   pub only_dirty : (r : Rack) (c b : ℕ) → sound r ≡ true → Shows r c b M → (held (cell_at r b c) ≡ r.tokens) × ((cell_at r b c).owner ≡ Dirty)
@@ -57,9 +55,9 @@ pub record CanStore (r : Rack) (c b : ℕ) : Type 0 where
 
 pub record Stores : Type 0 where
   -- a store by such a board is accepted; on a sound rack no other is; and then the board shows M
-  pub accepts : (r : Rack) (c b w v : ℕ) → w < 8 → CanStore r c b → ruled_reply r (Store c b w v) ≡ Accepted Done
-  pub only : (r : Rack) (c b w v : ℕ) (a : Answer) → sound r ≡ true → ruled_reply r (Store c b w v) ≡ Accepted a → CanStore r c b
-  pub then_M : (r : Rack) (c b w v : ℕ) (a : Answer) → sound r ≡ true → ruled_reply r (Store c b w v) ≡ Accepted a
+  pub accepts : (r : Rack) (c b w v : ℕ) → w < 8 → CanStore r c b → ruled_reply r (Store c b w v) ≡ Ok Done
+  pub only : (r : Rack) (c b w v : ℕ) (a : Answer) → sound r ≡ true → ruled_reply r (Store c b w v) ≡ Ok a → CanStore r c b
+  pub then_M : (r : Rack) (c b w v : ℕ) (a : Answer) → sound r ≡ true → ruled_reply r (Store c b w v) ≡ Ok a
       → Shows (ruled_after r (Store c b w v)) c b M
 
 -- ---- what E says: the board has the only copy, and home has the same words
@@ -90,15 +88,15 @@ MeansExclusive =
 -- The same of every list of byte strings, of the record that it leaves.
 abbrev pub MeansExclusiveBytes : Type 0
 MeansExclusiveBytes =
-    (n b t : ℕ) (s : List ℕ) (steps : List (List ℕ)) (c k : ℕ) → Bytes s → open_reply n b t s ≡ Accepted Done
-    → letter_reply (after (open_after n b t s) steps) c k ≡ Lettered.Letter E
+    (n b t : ℕ) (s : List ℕ) (steps : List (List ℕ)) (c k : ℕ) → Bytes s → open_reply n b t s ≡ Ok Done
+    → letter_reply (after (open_after n b t s) steps) c k ≡ Ok E
     → Exclusive (get (after (open_after n b t s) steps)) (memory_after (blank b) (accesses (open_after n b t s) steps)) c k
 
 -- A board that shows E may send the owner home without data, with any of its plain tokens (No. 2): accepted, unless the block is claimed or the mesh full.
 abbrev pub GoesHomeBare : Type 0
 GoesHomeBare =
     (r : Rack) (c b p : ℕ) → sound r ≡ true → Shows r c b E → p ≤ (cell_at r b c).plain → unclaimed (claims_at r b) ≡ true → mesh_full r ≡ false
-    → ruled_reply r (Send c b 0 p true false) ≡ Accepted Done
+    → ruled_reply r (Send c b 0 p true false) ≡ Ok Done
 
 -- ---- what stays. "Before" is document 01's letter; No. 4 moves no check and nothing of soundness, so these are today's.
 
@@ -109,7 +107,7 @@ abbrev pub letter_before : Rack → ℕ → ℕ → Lettered
 letter_before r c b = lettered (letter_check r c b) (letter_of_before r.tokens (cell_at r b c))
 
 abbrev pub letter_reply_before : List ℕ → ℕ → ℕ → Lettered
-letter_reply_before s c b = cond (sound_bytes s) (letter_before (get s) c b) (Lettered.Refused Unsound)
+letter_reply_before s c b = cond (sound_bytes s) (letter_before (get s) c b) (Err Unsound)
 
 -- what a reader sees who takes E for the M that it was
 abbrev pub without_e : Letter → Letter
@@ -120,8 +118,8 @@ without_e S = S
 without_e I = I
 
 abbrev pub reply_without_e : Lettered → Lettered
-reply_without_e (Lettered.Letter l) = Lettered.Letter (without_e l)
-reply_without_e (Lettered.Refused n) = Lettered.Refused n
+reply_without_e (Ok l) = Ok (without_e l)
+reply_without_e (Err n) = Err n
 
 pub record AsBefore : Type 0 where
   -- for that reader nothing has changed: of every cell, on every rack, and in every buffer
@@ -129,11 +127,11 @@ pub record AsBefore : Type 0 where
   pub rack : (r : Rack) (c b : ℕ) → reply_without_e (letter r c b) ≡ letter_before r c b
   pub bytes : (s : List ℕ) (c b : ℕ) → reply_without_e (letter_reply s c b) ≡ letter_reply_before s c b
   -- O, S and I are shown where they were, and nowhere else
-  pub still : (s : List ℕ) (c b : ℕ) (l : Letter) → (l ≡ M → ⊥) → letter_reply_before s c b ≡ Lettered.Letter l → letter_reply s c b ≡ Lettered.Letter l
-  pub only : (s : List ℕ) (c b : ℕ) (l : Letter) → (l ≡ M → ⊥) → (l ≡ E → ⊥) → letter_reply s c b ≡ Lettered.Letter l → letter_reply_before s c b ≡ Lettered.Letter l
+  pub still : (s : List ℕ) (c b : ℕ) (l : Letter) → (l ≡ M → ⊥) → letter_reply_before s c b ≡ Ok l → letter_reply s c b ≡ Ok l
+  pub only : (s : List ℕ) (c b : ℕ) (l : Letter) → (l ≡ M → ⊥) → (l ≡ E → ⊥) → letter_reply s c b ≡ Ok l → letter_reply_before s c b ≡ Ok l
   -- M and E only where M was
-  pub M-was-M : (s : List ℕ) (c b : ℕ) → letter_reply s c b ≡ Lettered.Letter M → letter_reply_before s c b ≡ Lettered.Letter M
-  pub E-was-M : (s : List ℕ) (c b : ℕ) → letter_reply s c b ≡ Lettered.Letter E → letter_reply_before s c b ≡ Lettered.Letter M
+  pub M-was-M : (s : List ℕ) (c b : ℕ) → letter_reply s c b ≡ Ok M → letter_reply_before s c b ≡ Ok M
+  pub E-was-M : (s : List ℕ) (c b : ℕ) → letter_reply s c b ≡ Ok E → letter_reply_before s c b ≡ Ok M
   -- and a letter is refused where it was, with the same number
-  pub refused : (s : List ℕ) (c b : ℕ) (n : Refusal) → letter_reply s c b ≡ Lettered.Refused n → letter_reply_before s c b ≡ Lettered.Refused n
-  pub still_refused : (s : List ℕ) (c b : ℕ) (n : Refusal) → letter_reply_before s c b ≡ Lettered.Refused n → letter_reply s c b ≡ Lettered.Refused n
+  pub refused : (s : List ℕ) (c b : ℕ) (n : Refusal) → letter_reply s c b ≡ Err n → letter_reply_before s c b ≡ Err n
+  pub still_refused : (s : List ℕ) (c b : ℕ) (n : Refusal) → letter_reply_before s c b ≡ Err n → letter_reply s c b ≡ Err n

@@ -1,21 +1,16 @@
 -- Document 02, No. 7: a load at home is answered by the ordinary load rule. The definition is `check` in Rules.antt, which no longer has document 01's
 -- line 4 for a load; here is what that means for home, what stays of document 01's loads, and what home is still refused.
-use Rattle.std.specs.Prelude.{ℕ, ◌<◌, ◌≡◌, Bool, true, false, not, cond, ◌||◌, List, [], ◌∷◌, map, get_or, eqb}
+use Rattle.std.specs.Prelude.{ℕ, ◌<◌, ◌≡◌, Bool, true, false, not, cond, ◌||◌, List, [], ◌∷◌, map, get_or, eqb, Ok, Err}
 use Rattle.spec_base.specs.Number.{Bytes}
 use Rattle.spec_wire.specs.declared.Refusal.TheVariants.{OffRack, Home, NoToken, NoData}
-use Rattle.spec_wire.specs.declared.Check.{Check}
-use Rattle.spec_wire.specs.declared.Check.TheVariants.{Pass}
+use Rattle.spec_rack.specs.Replies.{Reply}
+use Rattle.spec_wire.specs.Answers.{Check, Reading, no_refusal}
 use Rattle.spec_wire.specs.Refusals.{when◌refuse◌else◌}
 use Rattle.spec_wire.specs.declared.Step.{Step}
 use Rattle.spec_wire.specs.declared.Step.TheVariants.{Load, Store, Send, Deliver, Raise, Lower, Forward}
-use Rattle.spec_wire.specs.declared.Reading.{Reading}
-use Rattle.spec_wire.specs.declared.Reading.TheVariants.{Step as Read, Refused as NoStep}
 use Rattle.spec_wire.specs.Reader.{read_record}
 use Rattle.spec_rack.specs.declared.Answer.{Answer}
 use Rattle.spec_rack.specs.declared.Answer.TheVariants.{Word}
-use Rattle.spec_rack.specs.declared.Reply.{Reply}
-use Rattle.spec_rack.specs.declared.Reply.TheVariants.{Accepted, Refused}
-use Rattle.spec_rack.specs.declared.Lettered.TheVariants as Lettered
 use Rattle.spec_rack.specs.Rack.{Rack, fresh, is_home, cell_at, held}
 use Rattle.spec_rack.specs.Soundness.{sound}
 use Rattle.spec_rack.specs.Rules.{Outcome, settled, rules, off_rack, past_words, reply, rack_after}
@@ -32,7 +27,7 @@ load_check_before r c b w =
     when is_home c refuse Home else
     when eqb (held (cell_at r b c)) 0 refuse NoToken else
     when not (cell_at r b c).valid refuse NoData else
-    Pass
+    no_refusal
 
 abbrev pub rules_before : Rack → Step → Outcome
 rules_before r (Load c b w) = settled (load_check_before r c b w) (Word (get_or (cell_at r b c).words w 0)) r
@@ -70,7 +65,7 @@ abbrev pub ValidLoads : Type 0
 ValidLoads =
     (r : Rack) (c b w : ℕ) → sound r ≡ true → off_rack r c b ≡ false → w < 8
     → ruled_reply r (Load c b w)
-    ≡ cond (cell_at r b c).valid (Accepted (Word (get_or (cell_at r b c).words w 0))) (Refused (cond (eqb (held (cell_at r b c)) 0) NoToken NoData))
+    ≡ cond (cell_at r b c).valid (Ok (Word (get_or (cell_at r b c).words w 0))) (Err (cond (eqb (held (cell_at r b c)) 0) NoToken NoData))
 
 -- ---- every load that was answered before gives the same, every other load at a board has the same reply, and every list leaves the same
 
@@ -84,8 +79,8 @@ is_home_load (Lower c b) = false
 is_home_load (Forward c b) = false
 
 abbrev pub is_home_load_in : Reading → Bool
-is_home_load_in (Read t) = is_home_load t
-is_home_load_in (NoStep n) = false
+is_home_load_in (Ok t) = is_home_load t
+is_home_load_in (Err n) = false
 
 -- A list of items given to a state, by what one item leaves and what is replied to it, now and before; and an item x behind the list. As every item of a
 -- list stands behind a shorter one, this is said of each reply to a list.
@@ -94,7 +89,7 @@ module _ {S I : Type 0} (after afterBefore : S → I → S) (reply reply_before 
     -- it leaves the same
     pub state : run_all after s items ≡ run_all afterBefore s items
     -- what was accepted before is accepted with the same answer: an answered load gives the same word
-    pub answered : (x : I) (a : Answer) → reply_before (run_all afterBefore s items) x ≡ Accepted a → reply (run_all after s items) x ≡ Accepted a
+    pub answered : (x : I) (a : Answer) → reply_before (run_all afterBefore s items) x ≡ Ok a → reply (run_all after s items) x ≡ Ok a
     -- and what is no load at home has the same reply, refused or not
     pub others : (x : I) → homeLoad x ≡ false → reply (run_all after s items) x ≡ reply_before (run_all afterBefore s items) x
 
@@ -111,10 +106,10 @@ SameOnBytes =
 -- ---- stores, raises, lowers and letters at home are still refused with 4, and off the rack with 3 before it, on every rack
 
 pub record StillRefused : Type 0 where
-  pub store : (r : Rack) (b w v : ℕ) → ruled_reply r (Store 0 b w v) ≡ Refused (cond (off_rack r 0 b || past_words w) OffRack Home)
-  pub raise : (r : Rack) (b : ℕ) → ruled_reply r (Raise 0 b) ≡ Refused (cond (off_rack r 0 b) OffRack Home)
-  pub lower : (r : Rack) (b : ℕ) → ruled_reply r (Lower 0 b) ≡ Refused (cond (off_rack r 0 b) OffRack Home)
-  pub letter_at_home : (r : Rack) (b : ℕ) → letter r 0 b ≡ Lettered.Refused (cond (off_rack r 0 b) OffRack Home)
+  pub store : (r : Rack) (b w v : ℕ) → ruled_reply r (Store 0 b w v) ≡ Err (cond (off_rack r 0 b || past_words w) OffRack Home)
+  pub raise : (r : Rack) (b : ℕ) → ruled_reply r (Raise 0 b) ≡ Err (cond (off_rack r 0 b) OffRack Home)
+  pub lower : (r : Rack) (b : ℕ) → ruled_reply r (Lower 0 b) ≡ Err (cond (off_rack r 0 b) OffRack Home)
+  pub letter_at_home : (r : Rack) (b : ℕ) → letter r 0 b ≡ Err (cond (off_rack r 0 b) OffRack Home)
 
 -- ---- an example by the rules before: of `home_reads` the four loads at home that are on the rack were refused with 4
 

@@ -1,15 +1,13 @@
 -- Document 02, No. 1: a deliver says whom it served. The definition is `answer` in Rules.antt; here is what it means for the rack, and that every other
 -- answer is document 01's.
-use Rattle.std.specs.Prelude.{ℕ, ◌+◌, ◌<◌, ◌≡◌, true, List, map, get_or}
+use Rattle.std.specs.Prelude.{ℕ, ◌+◌, ◌<◌, ◌≡◌, true, List, map, get_or, Ok, Err}
 use Rattle.spec_base.specs.Number.{Bytes}
 use Rattle.spec_wire.specs.declared.Step.{Step}
 use Rattle.spec_wire.specs.declared.Step.TheVariants.{Load, Store, Send, Deliver, Raise, Lower, Forward}
-use Rattle.spec_wire.specs.declared.Reading.TheVariants.{Step as Read}
+use Rattle.spec_rack.specs.Replies.{Reply}
 use Rattle.spec_wire.specs.Reader.{read_record}
 use Rattle.spec_rack.specs.declared.Answer.{Answer}
 use Rattle.spec_rack.specs.declared.Answer.TheVariants.{Done, Word, Served}
-use Rattle.spec_rack.specs.declared.Reply.{Reply}
-use Rattle.spec_rack.specs.declared.Reply.TheVariants.{Accepted, Refused}
 use Rattle.spec_rack.specs.Rack.{Rack, cell_at, message_at, held, carried}
 use Rattle.spec_rack.specs.Soundness.{sound}
 use Rattle.spec_rack.specs.Rules.{accepted, settled, check, after, rules, reply}
@@ -42,12 +40,12 @@ SaysWhom = (r : Rack) (i : ℕ) (a : Answer) (r' : Rack) → sound r ≡ true �
 -- the bytes were a deliver, and this is whom it served
 pub record ServedBy (s bytes : List ℕ) (c b : ℕ) : Type 0 where
   pub position : ℕ
-  pub read : read_record bytes ≡ Read (Deliver position)
+  pub read : read_record bytes ≡ Ok (Deliver position)
   pub serves : Serves (get s) position c b (get (step_after s bytes))
 
 -- whatever the buffer held and whatever the bytes were: who is told "served" can rely on it
 abbrev pub EveryServed : Type 0
-EveryServed = (s bytes : List ℕ) (c b : ℕ) → Bytes s → step_reply s bytes ≡ Accepted (Served c b) → ServedBy s bytes c b
+EveryServed = (s bytes : List ℕ) (c b : ℕ) → Bytes s → step_reply s bytes ≡ Ok (Served c b) → ServedBy s bytes c b
 
 -- ---- all else is as it was
 
@@ -66,10 +64,10 @@ reply_before r s = reply (settled (check r s) (answer_before r s) (after r s))
 
 -- a reply to a reader who does not care whom a deliver served
 abbrev pub without_served : Reply → Reply
-without_served (Accepted Done) = Accepted Done
-without_served (Accepted (Word w)) = Accepted (Word w)
-without_served (Accepted (Served c b)) = Accepted Done
-without_served (Refused n) = Refused n
+without_served (Ok Done) = Ok Done
+without_served (Ok (Word w)) = Ok (Word w)
+without_served (Ok (Served c b)) = Ok Done
+without_served (Err n) = Err n
 
 -- Only a deliver's reply is new, and only where it is accepted. Which steps are accepted and what they change is said by `check` and `after`, of which
 -- No. 1 says nothing.
@@ -78,4 +76,4 @@ pub record AsBefore : Type 0 where
   pub other_step : (r : Rack) (s : Step) → ((i : ℕ) → s ≡ Deliver i → ⊥) → reply (rules r s) ≡ reply_before r s
   pub list : (r : Rack) (ss : List Step) → map without_served (rack_replies r ss) ≡ replies_of ruled_after reply_before r ss
   -- an opening gives only "done"
-  pub opening : (n b t : ℕ) (s : List ℕ) (a : Answer) → open_reply n b t s ≡ Accepted a → a ≡ Done
+  pub opening : (n b t : ℕ) (s : List ℕ) (a : Answer) → open_reply n b t s ≡ Ok a → a ≡ Done

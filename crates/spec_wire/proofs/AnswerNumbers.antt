@@ -12,9 +12,8 @@ use Rattle.spec_base.specs.Placing.{place}
 use Rattle.spec_wire.specs.declared.Refusal.{Refusal}
 use Rattle.spec_wire.specs.declared.Refusal.TheVariants.{Torn}
 use Rattle.spec_wire.specs.declared.Step.{Step}
-use Rattle.spec_wire.specs.declared.Reading.TheVariants.{Step as Read, Refused}
-use Rattle.spec_wire.specs.declared.Written.{Written}
-use Rattle.spec_wire.specs.declared.Written.TheVariants.{Count, Refused as NotWritten}
+use Rattle.std.specs.Prelude.{Ok, Err}
+use Rattle.spec_wire.specs.Answers.{Written}
 use Rattle.spec_wire.specs.Refusals.{number, numbered}
 use Rattle.spec_wire.specs.Results.{packed, done, refused}
 use Rattle.spec_wire.specs.Kinds.{field_array, step_in_bounds}
@@ -63,7 +62,7 @@ pub refusal_told : (r : Refusal) → numbered (number_part (refused r)) ≡ r
 refusal_told r = ap numbered (refusal_number r) ∙ number_back r
 
 -- the numbers of a step tell it, whatever stands behind them
-told_front : (s : Step) (q : List ℕ) → step_in_bounds s ≡ true → step_of_array (field_array s ++ q) ≡ Read s
+told_front : (s : Step) (q : List ℕ) → step_in_bounds s ≡ true → step_of_array (field_array s ++ q) ≡ Ok s
 unfolding step_of_array
 told_front s q h =
     let p : List ℕ = field_array s in
@@ -71,21 +70,21 @@ told_front s q h =
     let long : leb 12 (length (p ++ q)) ≡ leb 12 (length p) =
     le-leb 12 (length (p ++ q)) (omega (arith, length-append p q)) ∙ sym (le-leb 12 (length p) (omega arith)) in
     let same : take 12 (p ++ q) ≡ take 12 p = take_at p q 12 n ∙ sym (take_all 12 p (omega arith)) in
-    (λ i. cond (long i) (step_of_twelve (same i)) (Refused Torn)) ∙ told_places s h
+    (λ i. cond (long i) (step_of_twelve (same i)) (Err Torn)) ∙ told_places s h
 
-pub step_back : (s : Step) (out : List ℕ) → step_in_bounds s ≡ true → 12 ≤ length out → unpacked_reading (read_result (Read s) out) (read_after (Read s) out) ≡ Read s
+pub step_back : (s : Step) (out : List ℕ) → step_in_bounds s ≡ true → 12 ≤ length out → unpacked_reading (read_result (Ok s) out) (read_after (Ok s) out) ≡ Ok s
 unfolding read_result read_after placed place
 step_back s out h l = rw (le-leb (0 + length (field_array s)) (length out) (omega (arith, places_length s))) (told_front s (drop (0 + length (field_array s)) out) h)
 
-pub refused_back : (r : Refusal) (out : List ℕ) → unpacked_reading (read_result (Refused r) out) (read_after (Refused r) out) ≡ Refused r
+pub refused_back : (r : Refusal) (out : List ℕ) → unpacked_reading (read_result (Err r) out) (read_after (Err r) out) ≡ Err r
 unfolding read_result read_after
-refused_back r out = ap (λ (k : ℕ). decoded_reading k (number_part (refused r)) out) (refusal_kind r) ∙ ap Refused (refusal_told r)
+refused_back r out = ap (λ (k : ℕ). decoded_reading k (number_part (refused r)) out) (refusal_kind r) ∙ ap Err (refusal_told r)
 
 pub written_back : (w : Written) → written_fits w ≡ true → unpacked_written (write_result w) ≡ w
-written_back (Count n) h =
+written_back (Ok n) h =
     let small : n < 0x1_0000_0000 = ltb-true n 0x1_0000_0000 h in
-    ap (λ (k : ℕ). decoded_written k (number_part (done n))) (plain_kind 0 n small) ∙ ap Count (plain_number 0 n small)
-written_back (NotWritten r) h = ap (λ (k : ℕ). decoded_written k (number_part (refused r))) (refusal_kind r) ∙ ap NotWritten (refusal_told r)
+    ap (λ (k : ℕ). decoded_written k (number_part (done n))) (plain_kind 0 n small) ∙ ap Ok (plain_number 0 n small)
+written_back (Err r) h = ap (λ (k : ℕ). decoded_written k (number_part (refused r))) (refusal_kind r) ∙ ap Err (refusal_told r)
 
 pub answer_numbers : AnswerNumbers
 answer_numbers =

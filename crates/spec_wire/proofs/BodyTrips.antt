@@ -8,7 +8,7 @@ use Rattle.spec_base.proofs.Tests.{one_eqb, eqb_one}
 use Rattle.spec_wire.specs.declared.Refusal.TheVariants.{Torn}
 use Rattle.spec_wire.specs.declared.Step.{Step}
 use Rattle.spec_wire.specs.declared.Step.TheVariants.{Load, Store, Send, Deliver, Raise, Lower, Forward}
-use Rattle.spec_wire.specs.declared.Reading.TheVariants.{Step as Read, Refused}
+use Rattle.std.specs.Prelude.{Ok, Err}
 use Rattle.spec_wire.specs.Kinds.{Kind, no_field, kind_of, field_array, kind_in, in_bounds}
 use Rattle.spec_wire.specs.Reader.{body_parses, parsed_array, read_body}
 use Rattle.spec_wire.proofs.KindTable.{kind_elim, fit_of}
@@ -73,11 +73,11 @@ step_found (Forward c b) body h = cc
 
 -- what is read, by whether the fields fill the body
 module _ (k : ℕ) (body : List ℕ) where
-  pub torn_body : body_parses (kind_of k).fields body ≡ false → Refused Torn ≡ read_body k body
+  pub torn_body : body_parses (kind_of k).fields body ≡ false → Err Torn ≡ read_body k body
   unfolding read_body
   torn_body e = rw e
 
-  pub step_body : body_parses (kind_of k).fields body ≡ true → Read ((kind_of k).step (parsed_array k (kind_of k).fields body)) ≡ read_body k body
+  pub step_body : body_parses (kind_of k).fields body ≡ true → Ok ((kind_of k).step (parsed_array k (kind_of k).fields body)) ≡ read_body k body
   unfolding read_body
   step_body e = rw e
 

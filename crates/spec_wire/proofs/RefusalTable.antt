@@ -6,14 +6,14 @@ use Prim.Native.Nat.{ℕ, ◌≤◌}
 use native.Mathlib.Omega.{arith}
 use borrow.Author.Tests.{lt-ltb, le-ltb, le-leb, lt-leb, eq-eqb, ne_eqb}
 use Rattle.spec_base.proofs.Tests.{differs, and_of, and_left, and_right, or_left, or_right, or_none, not_of_false, not_of_true}
-use Rattle.spec_wire.specs.declared.Check.{Check}
-use Rattle.spec_wire.specs.declared.Check.TheVariants.{Pass, Refuse}
+use Rattle.std.specs.Prelude.{Err}
+use Rattle.spec_wire.specs.Answers.{Check, no_refusal}
 use Rattle.spec_wire.specs.declared.Refusal.{Refusal}
 use Rattle.spec_wire.specs.declared.Refusal.TheVariants.{Torn, Unsound, OffRack, Home, NoToken, NoData, Short, SelfSend, Claimed, Empty, NotHeld, BareOwner, MeshFull, NoMessage, Waiting, Barred, NotWaiting, Unclaimed, Size, ShortBuffer}
 use Rattle.spec_wire.specs.Refusals.{number, numbered, when◌refuse◌else◌}
 
 -- a line whose test passes ends the run
-pub stops : (t : Bool) (n : Refusal) (k : Check) → t ≡ true → Refuse n ≡ (when t refuse n else k)
+pub stops : (t : Bool) (n : Refusal) (k : Check) → t ≡ true → Err n ≡ (when t refuse n else k)
 unfolding when◌refuse◌else◌
 stops true n k e = refl
 stops false n k e = differs (sym e)
@@ -25,7 +25,7 @@ goes x true n k e h = differs e
 goes x false n k e h = h
 
 -- a line that was passed: its test has failed, and the lines below it have passed
-pub past : (t : Bool) (n : Refusal) (k : Check) → (when t refuse n else k) ≡ Pass → (t ≡ false) × (k ≡ Pass)
+pub past : (t : Bool) (n : Refusal) (k : Check) → (when t refuse n else k) ≡ no_refusal → (t ≡ false) × (k ≡ no_refusal)
 unfolding when◌refuse◌else◌
 past true n k e = let z : ◌≡◌ {A = ℕ} 0 1 = cc in absurd (omega arith)
 past false n k e = (refl, e)

@@ -13,7 +13,7 @@ use Rattle.spec_base.proofs.Parts.{bytes_drop}
 use Rattle.spec_wire.specs.declared.Refusal.{Refusal}
 use Rattle.spec_wire.specs.declared.Refusal.TheVariants.{Torn}
 use Rattle.spec_wire.specs.declared.Step.{Step}
-use Rattle.spec_wire.specs.declared.Reading.TheVariants.{Step as Read, Refused}
+use Rattle.std.specs.Prelude.{Ok, Err}
 use Rattle.spec_wire.specs.Kinds.{load_kind, forward_kind, kind_of, field_array, kind_in, step_in_bounds}
 use Rattle.spec_wire.specs.StepRecord.{record_bytes, step_bytes}
 use Rattle.spec_wire.specs.Reader.{body_parses, parsed_array, read_body, framed, read_record, ReadFits, OnlyKinds}
@@ -23,7 +23,7 @@ use Rattle.spec_wire.proofs.RecordSizes.{body, body_length, record_length_lem}
 use Rattle.spec_wire.proofs.FieldTrips.{body_read, body_written}
 use Rattle.spec_wire.proofs.BodyTrips.{found, step_found, step_body, gathered_fits}
 
-pub refused_read : {r : Refusal} {s : Step} → Refused r ≡ Read s → ⊥
+pub refused_read : {r : Refusal} {s : Step} → Err r ≡ Ok s → ⊥
 refused_read e = let z : ◌≡◌ {A = ℕ} 0 1 = cc in omega arith
 
 -- ---- written and read
@@ -35,14 +35,14 @@ frame_read k bs h =
     rw (le-leb 3 (length whole) (omega arith), eq-eqb (number (take 2 (drop 1 whole))) (length whole - 3) (omega arith))
 
 -- Reading the record of a step gives the step.
-pub read_written : (s : Step) → step_in_bounds s ≡ true → read_record (step_bytes s) ≡ Read s
+pub read_written : (s : Step) → step_in_bounds s ≡ true → read_record (step_bytes s) ≡ Ok s
 unfolding step_bytes
 read_written s h =
     let k : ℕ = kind_in (field_array s) in
     let r = body_read (kind_of k).fields (field_array s) (fields_sound k) (of_fit _ _ h) in
     frame_read k (body s) (omega (arith, body_length s))
     ∙ sym (step_body k (body s) r.0)
-    ∙ ap Read (step_found s (body s) r.1)
+    ∙ ap Ok (step_found s (body s) r.1)
 
 -- ---- read and written
 
@@ -52,7 +52,7 @@ record Accepted (bs : List ℕ) (s : Step) : Type 0 where
   filled : body_parses (kind_of (get_or bs 0 0)).fields (drop 3 bs) ≡ true
   step : (kind_of (get_or bs 0 0)).step (parsed_array (get_or bs 0 0) (kind_of (get_or bs 0 0)).fields (drop 3 bs)) ≡ s
 
-accepted : (bs : List ℕ) (s : Step) → read_record bs ≡ Read s → Accepted bs s
+accepted : (bs : List ℕ) (s : Step) → read_record bs ≡ Ok s → Accepted bs s
 unfolding read_record read_body
 accepted bs s e = by_frame (framed bs) refl e
   where
@@ -60,11 +60,11 @@ accepted bs s e = by_frame (framed bs) refl e
     k = get_or bs 0 0
 
     by_fill : framed bs ≡ true → (t : Bool) → body_parses (kind_of k).fields (drop 3 bs) ≡ t
-        → cond t (Read ((kind_of k).step (parsed_array k (kind_of k).fields (drop 3 bs)))) (Refused Torn) ≡ Read s → Accepted bs s
+        → cond t (Ok ((kind_of k).step (parsed_array k (kind_of k).fields (drop 3 bs)))) (Err Torn) ≡ Ok s → Accepted bs s
     by_fill f true q r = record { frame = f; filled = q; step = cc }
     by_fill f false q r = absurd (refused_read r)
 
-    by_frame : (t : Bool) → framed bs ≡ t → cond t (read_body k (drop 3 bs)) (Refused Torn) ≡ Read s → Accepted bs s
+    by_frame : (t : Bool) → framed bs ≡ t → cond t (read_body k (drop 3 bs)) (Err Torn) ≡ Ok s → Accepted bs s
     by_frame true q r = by_fill q (body_parses (kind_of k).fields (drop 3 bs)) refl r
     by_frame false q r = absurd (refused_read r)
 
@@ -90,7 +90,7 @@ read_places : (bs : List ℕ) (s : Step) (a : Accepted bs s) → field_array s �
 read_places bs s a = rw (← a.step) (found (drop 3 bs) (get_or bs 0 0) a.filled).back
 
 -- Accepted bytes are the record of the step that was read.
-pub written_read : (bs : List ℕ) (s : Step) → Bytes bs → read_record bs ≡ Read s → step_bytes s ≡ bs
+pub written_read : (bs : List ℕ) (s : Step) → Bytes bs → read_record bs ≡ Ok s → step_bytes s ≡ bs
 unfolding step_bytes
 written_read bs s h e =
     let a = accepted bs s e in
@@ -100,12 +100,12 @@ written_read bs s h e =
     (frame_written bs h a.frame)
 
 -- Different bytes are never read as the same step.
-pub read_injective : (xs ys : List ℕ) (s : Step) → Bytes xs → Bytes ys → read_record xs ≡ Read s → read_record ys ≡ Read s → xs ≡ ys
+pub read_injective : (xs ys : List ℕ) (s : Step) → Bytes xs → Bytes ys → read_record xs ≡ Ok s → read_record ys ≡ Ok s → xs ≡ ys
 read_injective xs ys s h k e f = sym (written_read xs s h e) ∙ written_read ys s k f
 
 -- Two steps never have the same record.
 written_injective : (s t : Step) → step_in_bounds s ≡ true → step_in_bounds t ≡ true → step_bytes s ≡ step_bytes t → s ≡ t
-written_injective s t h k e = let same : Read s ≡ Read t = sym (read_written s h) ∙ ap read_record e ∙ read_written t k in cc
+written_injective s t h k e = let same : Ok s ≡ Ok t = sym (read_written s h) ∙ ap read_record e ∙ read_written t k in cc
 
 pub round_trips : RoundTrips
 round_trips =

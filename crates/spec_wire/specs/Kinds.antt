@@ -1,5 +1,5 @@
 -- Document 01, "Step records": the table of fields, and the seven kinds of step with their fields. The reader and the writer both go by it.
-use Rattle.std.specs.Prelude.{ℕ, ◌≤◌, ◌≡◌, List, [], ◌∷◌, map, Bool, cond, length, get_or, take, eqb, ltb}
+use Rattle.std.specs.Prelude.{ℕ, List, [], ◌∷◌, Bool, cond, get_or, eqb, ltb}
 use Rattle.spec_base.specs.Folds.{toℕ, all}
 use Rattle.spec_wire.specs.declared.Field.{Field}
 use Rattle.spec_wire.specs.declared.Step.{Step}

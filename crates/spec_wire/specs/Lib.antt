@@ -9,3 +9,4 @@ pub mod Frames
 pub mod Results
 pub mod AnswerNumbers
 pub mod Readings
+pub mod Answers

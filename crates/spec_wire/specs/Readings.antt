@@ -1,13 +1,11 @@
 -- Document 01, "Step records", "Refusal table" and "Program rackrun": the bytes of records, each an equation that is computed, so that the paper's own
 -- bytes decide and not only that reader and writer agree.
-use Rattle.std.specs.Prelude.{ℕ, ◌≡◌, true, false, List, [], ◌∷◌, ◌++◌, map, replicate}
+use Rattle.std.specs.Prelude.{ℕ, ◌≡◌, true, false, List, [], ◌∷◌, ◌++◌, map, replicate, Ok, Err}
 use Rattle.spec_wire.specs.declared.Refusal.TheVariants.{Torn, ShortBuffer}
 use Rattle.spec_wire.specs.Refusals.{number, table}
 use Rattle.spec_wire.specs.Results.{done, refused}
 use Rattle.spec_wire.specs.declared.Step.{Step}
 use Rattle.spec_wire.specs.declared.Step.TheVariants.{Load, Store, Send, Deliver, Raise, Lower, Forward}
-use Rattle.spec_wire.specs.declared.Reading.TheVariants.{Step as Read, Refused}
-use Rattle.spec_wire.specs.declared.Written.TheVariants.{Count, Refused as NotWritten}
 use Rattle.spec_wire.specs.Kinds.{field_array}
 use Rattle.spec_wire.specs.StepRecord.{step_bytes}
 use Rattle.spec_wire.specs.Reader.{read_record}
@@ -65,7 +63,7 @@ forward_bytes = 0x16 ∷ 0x00 ∷ 0x08 ∷ 0x01 ∷ 0x00 ∷ 0x01 ∷ 0xA1 ∷ 0
 pub record Records : Type 0 where
   -- the paper's own
   pub listing_bytes : map step_bytes listed ≡ listing
-  pub listing_read : map read_record listing ≡ map Read listed
+  pub listing_read : map read_record listing ≡ map Ok listed
   -- the bytes of each kind
   pub load : step_bytes (Load 0xA1 0xA2 0xA3) ≡ load_bytes
   pub store : step_bytes (Store 0xA1 0xA2 0xA3 0x0102_0304) ≡ store_bytes
@@ -75,18 +73,18 @@ pub record Records : Type 0 where
   pub lower : step_bytes (Lower 0xA1 0xA2) ≡ lower_bytes
   pub forward : step_bytes (Forward 0xA1 0xA2) ≡ forward_bytes
   -- read back
-  pub load_read : read_record load_bytes ≡ Read (Load 0xA1 0xA2 0xA3)
-  pub store_read : read_record store_bytes ≡ Read (Store 0xA1 0xA2 0xA3 0x0102_0304)
-  pub send_read : read_record send_bytes ≡ Read (Send 0xA1 0xA2 0xA5 0xA6 false true)
-  pub deliver_read : read_record deliver_bytes ≡ Read (Deliver 0xA9)
-  pub raise_read : read_record raise_bytes ≡ Read (Raise 0xA1 0xA2)
-  pub lower_read : read_record lower_bytes ≡ Read (Lower 0xA1 0xA2)
-  pub forward_read : read_record forward_bytes ≡ Read (Forward 0xA1 0xA2)
+  pub load_read : read_record load_bytes ≡ Ok (Load 0xA1 0xA2 0xA3)
+  pub store_read : read_record store_bytes ≡ Ok (Store 0xA1 0xA2 0xA3 0x0102_0304)
+  pub send_read : read_record send_bytes ≡ Ok (Send 0xA1 0xA2 0xA5 0xA6 false true)
+  pub deliver_read : read_record deliver_bytes ≡ Ok (Deliver 0xA9)
+  pub raise_read : read_record raise_bytes ≡ Ok (Raise 0xA1 0xA2)
+  pub lower_read : read_record lower_bytes ≡ Ok (Lower 0xA1 0xA2)
+  pub forward_read : read_record forward_bytes ≡ Ok (Forward 0xA1 0xA2)
   -- the ends of the values: FF in one byte, FF FF FF FF in four
-  pub highest : read_record (0x13 ∷ 0x00 ∷ 0x04 ∷ 0x09 ∷ 0x00 ∷ 0x01 ∷ 0xFF ∷ []) ≡ Read (Deliver 255)
+  pub highest : read_record (0x13 ∷ 0x00 ∷ 0x04 ∷ 0x09 ∷ 0x00 ∷ 0x01 ∷ 0xFF ∷ []) ≡ Ok (Deliver 255)
   pub highest_value :
       read_record (0x11 ∷ 0x00 ∷ 0x13 ∷ 0x01 ∷ 0x00 ∷ 0x01 ∷ 0x00 ∷ 0x02 ∷ 0x00 ∷ 0x01 ∷ 0x00 ∷ 0x03 ∷ 0x00 ∷ 0x01 ∷ 0x00 ∷ 0x04 ∷ 0x00 ∷ 0x04 ∷ 0xFF ∷ 0xFF ∷ 0xFF ∷ 0xFF ∷ [])
-      ≡ Read (Store 0 0 0 0xFFFF_FFFF)
+      ≡ Ok (Store 0 0 0 0xFFFF_FFFF)
 
 -- ---- torn: what is no step record
 
@@ -109,11 +107,11 @@ send_with o d =
     0x12 ∷ 0x00 ∷ 0x18 ∷ 0x01 ∷ 0x00 ∷ 0x01 ∷ 0x00 ∷ 0x02 ∷ 0x00 ∷ 0x01 ∷ 0x00 ∷ 0x05 ∷ 0x00 ∷ 0x01 ∷ 0x01 ∷ 0x06 ∷ 0x00 ∷ 0x01 ∷ 0x02 ∷ 0x07 ∷ 0x00 ∷ 0x01 ∷ o ∷ 0x08 ∷ 0x00 ∷ 0x01 ∷ d ∷ []
 
 abbrev pub TornAll : List (List ℕ) → Type 0
-TornAll bss = map read_record bss ≡ map (λ bs. Refused Torn) bss
+TornAll bss = map read_record bss ≡ map (λ bs. Err Torn) bss
 
 pub record TornBytes : Type 0 where
   -- beside these, a good one
-  pub good : read_record (record_with 0x14 0x00 0x08 (component ++ block)) ≡ Read (Raise 2 0)
+  pub good : read_record (record_with 0x14 0x00 0x08 (component ++ block)) ≡ Ok (Raise 2 0)
   -- no bytes, one, two; three of a kind with fields
   pub few : TornAll ([] ∷ (0x14 ∷ []) ∷ (0x14 ∷ 0x00 ∷ []) ∷ (0x14 ∷ 0x00 ∷ 0x00 ∷ []) ∷ [])
   -- a kind byte that is none: below, above, 0, FF
@@ -145,7 +143,7 @@ pub record TornBytes : Type 0 where
   -- owner and data are 00 or 01
   pub marks :
       map read_record (send_with 0x00 0x00 ∷ send_with 0x01 0x00 ∷ send_with 0x00 0x01 ∷ [])
-      ≡ map Read (Send 0 0 1 2 false false ∷ Send 0 0 1 2 true false ∷ Send 0 0 1 2 false true ∷ [])
+      ≡ map Ok (Send 0 0 1 2 false false ∷ Send 0 0 1 2 true false ∷ Send 0 0 1 2 false true ∷ [])
   pub bad_marks : TornAll (send_with 0x02 0x00 ∷ send_with 0x00 0x02 ∷ send_with 0xFF 0x01 ∷ send_with 0x01 0xFF ∷ [])
 
 -- ---- the writer, and the entries for C
@@ -156,18 +154,18 @@ around = replicate 12 0xEE
 
 pub record Placed : Type 0 where
   -- the record of a delivery, seven bytes, from offset 3 on; the count of bytes placed, bytes around it untouched
-  pub count : written (step_bytes (Deliver 5)) 3 around ≡ Count 7
+  pub count : written (step_bytes (Deliver 5)) 3 around ≡ Ok 7
   pub placing : placed (step_bytes (Deliver 5)) 3 around ≡ 0xEE ∷ 0xEE ∷ 0xEE ∷ 0x13 ∷ 0x00 ∷ 0x04 ∷ 0x09 ∷ 0x00 ∷ 0x01 ∷ 0x05 ∷ 0xEE ∷ 0xEE ∷ []
   -- up to the buffer's end it is placed, one further it is 20 and nothing is placed
-  pub last : written (step_bytes (Deliver 5)) 5 around ≡ Count 7
-  pub past : written (step_bytes (Deliver 5)) 6 around ≡ NotWritten ShortBuffer
+  pub last : written (step_bytes (Deliver 5)) 5 around ≡ Ok 7
+  pub past : written (step_bytes (Deliver 5)) 6 around ≡ Err ShortBuffer
   pub past_leaves : placed (step_bytes (Deliver 5)) 6 around ≡ around
   -- the numbers of a step from C: 1 before 20; too few numbers, a number that does not fit, a place that the kind has not
   pub numbers : field_array (Send 1 2 5 6 false true) ≡ 0x12 ∷ 1 ∷ 2 ∷ 0 ∷ 0 ∷ 5 ∷ 6 ∷ 0 ∷ 1 ∷ 0 ∷ 0 ∷ 0 ∷ []
   pub write_1 :
       map (λ ns. written_of (step_of_array ns) 0 []) ([] ∷ replicate 11 0 ∷ replicate 12 0 ∷ (0x13 ∷ replicate 8 0 ++ 256 ∷ 0 ∷ 0 ∷ []) ∷ (0x13 ∷ 1 ∷ replicate 10 0) ∷ [])
-      ≡ replicate 5 (NotWritten Torn)
-  pub write_20 : written_of (step_of_array (0x13 ∷ replicate 11 0)) 0 [] ≡ NotWritten ShortBuffer
+      ≡ replicate 5 (Err Torn)
+  pub write_20 : written_of (step_of_array (0x13 ∷ replicate 11 0)) 0 [] ≡ Err ShortBuffer
   pub write_leaves : placed_of (step_of_array []) 0 around ≡ around
   -- reading for C: 1 before 20, where the place for the twelve numbers is too short; a step needs twelve
   pub read_1 : read_result (read_record []) [] ≡ refused Torn
@@ -177,7 +175,7 @@ pub record Placed : Type 0 where
   pub read_numbers : read_after (read_record deliver_bytes) (replicate 13 7) ≡ 0x13 ∷ 0 ∷ 0 ∷ 0 ∷ 0 ∷ 0 ∷ 0 ∷ 0 ∷ 0 ∷ 0xA9 ∷ 0 ∷ 0 ∷ 7 ∷ []
   -- answers as numbers
   pub refused_number : refused ShortBuffer ≡ 0x0100_0000_0000_0014
-  pub written_number : write_result (Count 27) ≡ 27
+  pub written_number : write_result (Ok 27) ≡ 27
 
 -- ---- rackrun: "records, cut by their lengths; an incomplete last one is one torn step"
 pub record Cuts : Type 0 where

@@ -1,9 +1,8 @@
 -- Document 01, "Refusal table": the numbers of the refusals, and how a run down the table goes.
-use Rattle.std.specs.Prelude.{ℕ, ◌-◌, List, [], ◌∷◌, get_or, Bool, true, false}
+use Rattle.std.specs.Prelude.{ℕ, ◌-◌, List, [], ◌∷◌, get_or, Bool, true, false, Err}
 use Rattle.spec_wire.specs.declared.Refusal.{Refusal}
 use Rattle.spec_wire.specs.declared.Refusal.TheVariants.{Torn, Unsound, OffRack, Home, NoToken, NoData, Short, SelfSend, Claimed, Empty, NotHeld, BareOwner, MeshFull, NoMessage, Waiting, Barred, NotWaiting, Unclaimed, Size, ShortBuffer}
-use Rattle.spec_wire.specs.declared.Check.{Check}
-use Rattle.spec_wire.specs.declared.Check.TheVariants.{Refuse}
+use Rattle.spec_wire.specs.Answers.{Check}
 
 -- the table's numbers; its word for 8 is "self"
 abbrev pub number : Refusal → ℕ
@@ -40,5 +39,5 @@ numbered n = get_or table (n - 1) Torn
 infixr 5 when◌refuse◌else◌
 -- a line of the table: the refusal where the test passes, and the lines below it where the test fails
 unfoldable pub when◌refuse◌else◌ : Bool → Refusal → Check → Check
-when true refuse n else k = Refuse n
+when true refuse n else k = Err n
 when false refuse n else k = k

@@ -26,13 +26,6 @@ pub enum Refusal {
     ShortBuffer,
 }
 
-// The verdict of a run down the table: no line of it matched, or the first that did.
-#[derive(Clone, Copy)]
-pub enum Check {
-    Pass,
-    Refuse(Refusal),
-}
-
 // A step of the hub card.
 #[derive(Clone, Copy)]
 pub enum Step {
@@ -72,26 +65,12 @@ pub enum Step {
     },
 }
 
-// What reading bytes gives: the step that they are the record of, or a refusal.
-#[derive(Clone, Copy)]
-pub enum Reading {
-    Step(Step),
-    Refused(Refusal),
-}
-
 // A field of a record: its tag, the width of its value in bytes, and the number that its value stays below.
 #[derive(Clone, Copy)]
 pub struct Field {
     pub tag: u8,
     pub width: usize,
     pub limit: u64,
-}
-
-// What writing a step gives: the count of bytes placed, or a refusal.
-#[derive(Clone, Copy)]
-pub enum Written {
-    Count(usize),
-    Refused(Refusal),
 }
 
 // Kind bytes and tags of step records: specs/Kinds.antt has the same numbers, and the contracts tie the two.

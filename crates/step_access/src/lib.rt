@@ -8,44 +8,44 @@ ghost use Rattle.record.specs.Needs.{InLayout, SoundRecord};
 ghost use Rattle.spec_rack.specs.Entries.{reply_to_step, buffer_after};
 
 use base::wide;
-use spec_rack::{Answer, Reply, TOKEN_COUNT_OFFSET};
-use spec_wire::{Check, Refusal, Step};
+use spec_rack::{Answer, TOKEN_COUNT_OFFSET};
+use spec_wire::{Refusal, Step};
 
-pub fn load(rec: &[u8], component: u8, block: u8, word: u8) -> Reply
+pub fn load(rec: &[u8], component: u8, block: u8, word: u8) -> Result<Answer, Refusal>
     requires { SoundRecord rec.now }
     ensures { result ≡ reply_to_step rec.now (Step.Load component block word) }
 {
     if step_checks::off_rack_word(rec, component, block, word) {
-        return Reply::Refused(Refusal::OffRack);
+        return Err(Refusal::OffRack);
     }
     let state = record::cells::token_state(rec, block, component);
     if step_tokens::held(state) == 0 {
-        return Reply::Refused(Refusal::NoToken);
+        return Err(Refusal::NoToken);
     }
     if !state.valid {
-        return Reply::Refused(Refusal::NoData);
+        return Err(Refusal::NoData);
     }
-    Reply::Accepted(Answer::Word(record::cells::word(rec, block, component, word)))
+    Ok(Answer::Word(record::cells::word(rec, block, component, word)))
 }
 
-fn store_check(rec: &[u8], component: u8, block: u8, word: u8, value: u32) -> Check
+fn store_check(rec: &[u8], component: u8, block: u8, word: u8, value: u32) -> Result<(), Refusal>
     requires { InLayout rec.now }
     ensures { result ≡ check (get rec.now) (Step.Store component block word value) }
 {
     if step_checks::off_rack_word(rec, component, block, word) {
-        return Check::Refuse(Refusal::OffRack);
+        return Err(Refusal::OffRack);
     }
     if step_checks::at_home(component) {
-        return Check::Refuse(Refusal::Home);
+        return Err(Refusal::Home);
     }
     let state = record::cells::token_state(rec, block, component);
     if step_tokens::held(state) < wide(rec[TOKEN_COUNT_OFFSET]) {
-        return Check::Refuse(Refusal::Short);
+        return Err(Refusal::Short);
     }
-    Check::Pass
+    Ok(())
 }
 
-pub fn store(rec: &mut [u8], component: u8, block: u8, word: u8, value: u32) -> Reply
+pub fn store(rec: &mut [u8], component: u8, block: u8, word: u8, value: u32) -> Result<Answer, Refusal>
     requires { SoundRecord rec.old }
     ensures reply { result ≡ reply_to_step rec.old (Step.Store component block word value) }
     ensures buffer { rec.new ≡ buffer_after rec.old (Step.Store component block word value) }
@@ -53,7 +53,7 @@ pub fn store(rec: &mut [u8], component: u8, block: u8, word: u8, value: u32) -> 
     let verdict = store_check(rec, component, block, word, value);
     if step_checks::is_pass(verdict) {
         record::cells::set_word(rec, block, component, word, value);
-        return Reply::Accepted(Answer::Done);
+        return Ok(Answer::Done);
     }
     step_checks::reply_of(verdict)
 }

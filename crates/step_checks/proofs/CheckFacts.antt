@@ -10,8 +10,7 @@ use lib.Dec.{eqb}
 use lib.ListN.{length}
 use Rattle.spec_base.proofs.Tests.{or_l}
 use Rattle.spec_wire.specs.declared.Refusal.TheVariants.{OffRack, Home}
-use Rattle.spec_wire.specs.declared.Check.{Check}
-use Rattle.spec_wire.specs.declared.Check.TheVariants.{Pass}
+use Rattle.spec_wire.specs.Answers.{Check, no_refusal}
 use Rattle.spec_wire.specs.Refusals.{when◌refuse◌else◌}
 use Rattle.spec_wire.proofs.RefusalTable.{past}
 use Rattle.spec_wire.specs.declared.Step.TheVariants.{Store, Send, Deliver, Raise, Lower, Forward}
@@ -31,7 +30,7 @@ module _ (s : List ℕ) (ready : SoundRecord s) where
   on_rack : (c b : ℕ) → off_rack (get s) c b ≡ false → CellInRecord s b c
   on_rack c b h = in_cell s c b refl h ready.whole
 
-  on_board : (c b : ℕ) (k : Check) → (when off_rack (get s) c b refuse OffRack else when eqb c 0 refuse Home else k) ≡ Pass → CellInRecord s b c × (1 ≤ c)
+  on_board : (c b : ℕ) (k : Check) → (when off_rack (get s) c b refuse OffRack else when eqb c 0 refuse Home else k) ≡ no_refusal → CellInRecord s b c × (1 ≤ c)
   on_board c b k h =
       let known = past _ _ _ h in
       let ne : c ≡ 0 → ⊥ = eqb-false c 0 (past _ _ _ known.1).0 in
@@ -44,7 +43,7 @@ module _ (s : List ℕ) (ready : SoundRecord s) where
   -- ---- kind by kind
 
   -- who holds every token has the owner
-  pub store_passed : (c b w v : ℕ) → check (get s) (Store c b w v) ≡ Pass → CellInRecord s b c × ((w < 8) × (present (cell_at (get s) b c).owner ≡ true))
+  pub store_passed : (c b w v : ℕ) → check (get s) (Store c b w v) ≡ no_refusal → CellInRecord s b c × ((w < 8) × (present (cell_at (get s) b c).owner ≡ true))
   unfolding check
   store_passed c b w v h =
       let known = past _ _ _ h in
@@ -59,7 +58,7 @@ module _ (s : List ℕ) (ready : SoundRecord s) where
         ),
       )
 
-  pub send_passed : (c b t p : ℕ) (o d : Bool) → check (get s) (Send c b t p o d) ≡ Pass → CanSend s c b p
+  pub send_passed : (c b t p : ℕ) (o d : Bool) → check (get s) (Send c b t p o d) ≡ no_refusal → CanSend s c b p
   unfolding check
   send_passed c b t p o d h =
       let known = past _ _ _ h in
@@ -77,19 +76,19 @@ module _ (s : List ℕ) (ready : SoundRecord s) where
         room = room full.0;
       }
 
-  pub deliver_passed : (i : ℕ) → check (get s) (Deliver i) ≡ Pass → i < messages_in s
+  pub deliver_passed : (i : ℕ) → check (get s) (Deliver i) ≡ no_refusal → i < messages_in s
   unfolding check
   deliver_passed i h = omega (arith, mesh_is s, leb-false (length (get s).mesh) i (past _ _ _ h).0)
 
-  pub raise_passed : (c b : ℕ) → check (get s) (Raise c b) ≡ Pass → CellInRecord s b c × (1 ≤ c)
+  pub raise_passed : (c b : ℕ) → check (get s) (Raise c b) ≡ no_refusal → CellInRecord s b c × (1 ≤ c)
   unfolding check
   raise_passed c b h = on_board c b _ h
 
-  pub lower_passed : (c b : ℕ) → check (get s) (Lower c b) ≡ Pass → CellInRecord s b c × (1 ≤ c)
+  pub lower_passed : (c b : ℕ) → check (get s) (Lower c b) ≡ no_refusal → CellInRecord s b c × (1 ≤ c)
   unfolding check
   lower_passed c b h = on_board c b _ h
 
-  pub forward_passed : (c b : ℕ) → check (get s) (Forward c b) ≡ Pass → CanSend s c b (cell_at (get s) b c).plain
+  pub forward_passed : (c b : ℕ) → check (get s) (Forward c b) ≡ no_refusal → CanSend s c b (cell_at (get s) b c).plain
   unfolding check
   forward_passed c b h =
       let known = past _ _ _ h in

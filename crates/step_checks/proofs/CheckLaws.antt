@@ -8,8 +8,8 @@ use lib.Dec.{eqb, ltb}
 use lib.ListN.{length}
 use borrow.Author.Tests.{not-true, not-false}
 use Rattle.spec_wire.specs.declared.Refusal.TheVariants.{OffRack, Home, NoToken, NoData, Short, NoMessage}
-use Rattle.spec_wire.specs.declared.Check.{Check}
-use Rattle.spec_wire.specs.declared.Check.TheVariants.{Pass, Refuse}
+use Rattle.std.specs.Prelude.{Err}
+use Rattle.spec_wire.specs.Answers.{Check, no_refusal}
 use Rattle.spec_wire.specs.Refusals.{when◌refuse◌else◌}
 use Rattle.spec_wire.proofs.RefusalTable.{table}
 use Rattle.spec_wire.specs.declared.Step.TheVariants.{Load, Store, Send, Deliver, Raise, Lower, Forward}
@@ -29,28 +29,28 @@ held_is state tokens = tokens ∙ (λ i. state.plain i + owners (state.owner i))
 
 module _ (r : Rack) (c b w : ℕ) {off : Bool} (off-is : off ≡ (off_rack r c b || ltb 7 w)) where
   module _ (off-rack : off ≡ true) where
-    pub load_off_rack : Refuse OffRack ≡ check r (Load c b w)
+    pub load_off_rack : Err OffRack ≡ check r (Load c b w)
     unfolding check
     load_off_rack = search (table, sym off-is ∙ off-rack) depth 10
 
-    pub store_off_rack : (v : ℕ) → Refuse OffRack ≡ check r (Store c b w v)
+    pub store_off_rack : (v : ℕ) → Err OffRack ≡ check r (Store c b w v)
     unfolding check
     store_off_rack v = search (table, sym off-is ∙ off-rack) depth 10
 
   module _ (on_rack : off ≡ false) where
     module _ {m : TokenState} (state : TokenStateOf (cell_at r b c) m) {h : ℕ} (tokens : h ≡ m.plain + owners m.owner) where
-      pub load_no_token : h ≡ 0 → Refuse NoToken ≡ check r (Load c b w)
+      pub load_no_token : h ≡ 0 → Err NoToken ≡ check r (Load c b w)
       unfolding check
       load_no_token none = let none : held (cell_at r b c) ≡ 0 = sym (held_is state tokens) ∙ none in search (table, sym off-is ∙ on_rack) depth 10
 
-      pub load_no_data : (h ≡ 0 → ⊥) → not m.valid ≡ true → Refuse NoData ≡ check r (Load c b w)
+      pub load_no_data : (h ≡ 0 → ⊥) → not m.valid ≡ true → Err NoData ≡ check r (Load c b w)
       unfolding check
       load_no_data some stale =
           let some : held (cell_at r b c) ≡ 0 → ⊥ = λ e. some (held_is state tokens ∙ e) in
           let stale : (cell_at r b c).valid ≡ false = sym state.valid ∙ not-true _ stale in
           search (table, sym off-is ∙ on_rack) depth 10
 
-      pub load_pass : (h ≡ 0 → ⊥) → not m.valid ≡ false → Pass ≡ check r (Load c b w)
+      pub load_pass : (h ≡ 0 → ⊥) → not m.valid ≡ false → no_refusal ≡ check r (Load c b w)
       unfolding check
       load_pass some valid =
           let some : held (cell_at r b c) ≡ 0 → ⊥ = λ e. some (held_is state tokens ∙ e) in
@@ -58,16 +58,16 @@ module _ (r : Rack) (c b w : ℕ) {off : Bool} (off-is : off ≡ (off_rack r c b
           search (table, sym off-is ∙ on_rack) depth 10
 
     module _ (v : ℕ) {home : Bool} (home-is : home ≡ eqb c 0) where
-      pub store_home : home ≡ true → Refuse Home ≡ check r (Store c b w v)
+      pub store_home : home ≡ true → Err Home ≡ check r (Store c b w v)
       unfolding check
       store_home at_home = search (table, sym off-is ∙ on_rack, sym home-is ∙ at_home) depth 10
 
       module _ (away : home ≡ false) {m : TokenState} (state : TokenStateOf (cell_at r b c) m) {h : ℕ} (tokens : h ≡ m.plain + owners m.owner) {t : ℕ} (all : r.tokens ≡ t) where
-        pub store_short : h < t → Refuse Short ≡ check r (Store c b w v)
+        pub store_short : h < t → Err Short ≡ check r (Store c b w v)
         unfolding check
         store_short short = let short : held (cell_at r b c) < r.tokens = omega (arith, held_is state tokens) in search (table, sym off-is ∙ on_rack, sym home-is ∙ away) depth 10
 
-        pub store_pass : t ≤ h → Pass ≡ check r (Store c b w v)
+        pub store_pass : t ≤ h → no_refusal ≡ check r (Store c b w v)
         unfolding check
         store_pass has = let has : r.tokens ≤ held (cell_at r b c) = omega (arith, held_is state tokens) in search (table, sym off-is ∙ on_rack, sym home-is ∙ away) depth 10
 
@@ -75,27 +75,27 @@ module _ (r : Rack) (c b w : ℕ) {off : Bool} (off-is : off ≡ (off_rack r c b
 
 module _ (r : Rack) (c b : ℕ) {off : Bool} (off-is : off ≡ off_rack r c b) where
   module _ (off-rack : off ≡ true) where
-    pub send_off_rack : (t p : ℕ) (o d : Bool) → Refuse OffRack ≡ check r (Send c b t p o d)
+    pub send_off_rack : (t p : ℕ) (o d : Bool) → Err OffRack ≡ check r (Send c b t p o d)
     unfolding check
     send_off_rack t p o d = search (table, sym off-is ∙ off-rack) depth 10
 
-    pub forward_off_rack : Refuse OffRack ≡ check r (Forward c b)
+    pub forward_off_rack : Err OffRack ≡ check r (Forward c b)
     unfolding check
     forward_off_rack = search (table, sym off-is ∙ off-rack) depth 10
 
 -- ---- the two lines that a raise and a lower begin with
 
 module _ (r : Rack) (c b : ℕ) {off : Bool} (off-is : off ≡ off_rack r c b) where
-  pub board_off_rack : off ≡ true → Refuse OffRack ≡ board_lines r c b Pass
+  pub board_off_rack : off ≡ true → Err OffRack ≡ board_lines r c b no_refusal
   unfolding board_lines
   board_off_rack off-rack = search (table, sym off-is ∙ off-rack) depth 10
 
   module _ (on_rack : off ≡ false) {home : Bool} (home-is : home ≡ eqb c 0) where
-    pub board_home : home ≡ true → Refuse Home ≡ board_lines r c b Pass
+    pub board_home : home ≡ true → Err Home ≡ board_lines r c b no_refusal
     unfolding board_lines
     board_home at_home = search (table, sym off-is ∙ on_rack, sym home-is ∙ at_home) depth 10
 
-    pub board_pass : home ≡ false → Pass ≡ board_lines r c b Pass
+    pub board_pass : home ≡ false → no_refusal ≡ board_lines r c b no_refusal
     unfolding board_lines
     board_pass away = search (table, sym off-is ∙ on_rack, sym home-is ∙ away) depth 10
 
@@ -108,18 +108,18 @@ unfolding check board_lines
 lower_lines r c b = refl
 
 -- their verdict: where it refuses, the whole table does, and where it passes, the rest of the table is the verdict
-module _ (r : Rack) (c b : ℕ) {k : Check} {p : Bool} (is : k ≡ board_lines r c b Pass) (p-is : p ≡ is_pass k) where
+module _ (r : Rack) (c b : ℕ) {k : Check} {p : Bool} (is : k ≡ board_lines r c b no_refusal) (p-is : p ≡ is_pass k) where
   pub board_refused : (rest : Check) → not p ≡ true → k ≡ board_lines r c b rest
   unfolding board_lines when◌refuse◌else◌
   board_refused rest refused = by_tests (off_rack r c b) (eqb c 0) is
     where
-      by_tests : (off home : Bool) → k ≡ (when off refuse OffRack else when home refuse Home else Pass) → k ≡ (when off refuse OffRack else when home refuse Home else rest)
+      by_tests : (off home : Bool) → k ≡ (when off refuse OffRack else when home refuse Home else no_refusal) → k ≡ (when off refuse OffRack else when home refuse Home else rest)
       by_tests true home e = e
       by_tests false true e = e
       by_tests false false e = differs (sym (ap is_pass e) ∙ sym p-is ∙ not-true p refused)
 
   module _ (passed : not p ≡ false) where
-    both_fail : (off home : Bool) → k ≡ (when off refuse OffRack else when home refuse Home else Pass) → (off ≡ false) × (home ≡ false)
+    both_fail : (off home : Bool) → k ≡ (when off refuse OffRack else when home refuse Home else no_refusal) → (off ≡ false) × (home ≡ false)
     unfolding when◌refuse◌else◌
     both_fail true home e = differs (sym (not-false p passed) ∙ p-is ∙ ap is_pass e)
     both_fail false true e = differs (sym (not-false p passed) ∙ p-is ∙ ap is_pass e)
@@ -140,10 +140,10 @@ module _ (r : Rack) (c b : ℕ) {k : Check} {p : Bool} (is : k ≡ board_lines r
 -- ---- deliver
 
 module _ (r : Rack) (i : ℕ) {n : ℕ} (flying : length r.mesh ≡ n) where
-  pub deliver_no_message : n ≤ i → Refuse NoMessage ≡ check r (Deliver i)
+  pub deliver_no_message : n ≤ i → Err NoMessage ≡ check r (Deliver i)
   unfolding check
   deliver_no_message past = let past : length r.mesh ≤ i = omega arith in search table depth 10
 
-  pub deliver_pass : i < n → Pass ≡ check r (Deliver i)
+  pub deliver_pass : i < n → no_refusal ≡ check r (Deliver i)
   unfolding check
   deliver_pass in_flight_lem = let in_flight_lem : i < length r.mesh = omega arith in search table depth 10

@@ -11,7 +11,7 @@ use borrow.Author.Tests.{eq-eqb, lt-ltb, le-ltb, ltb-false, leb-false, leb-true}
 use Rattle.spec_base.proofs.Tests.{differs, lt_or_le, and_l, and_r, or_l, or_r, or_left}
 use Rattle.spec_base.specs.Number.{Bytes}
 use Rattle.spec_base.specs.Layout.{slice}
-use Rattle.spec_wire.specs.declared.Check.{Check}
+use Rattle.spec_wire.specs.Answers.{Check}
 use Rattle.spec_arbiter.specs.Claims.{Claims}
 use Rattle.spec_rack.specs.RecordLayout.{claims, block_offset, claims_offset, get, blocks_in, boards_in, claims_size, messages_in}
 use Rattle.spec_rack.specs.Rack.{mesh_limit, claims_at}

@@ -2,7 +2,7 @@
 #![tactic(auto)]
 
 ghost use Rattle.std.specs.Prelude.{◌≡◌, ◌||◌, not, ◌+◌, ◌*◌, ◌<◌, eqb, ltb, get_or};
-ghost use Rattle.spec_wire.specs.declared.Check.TheVariants.{Pass};
+ghost use Rattle.spec_wire.specs.Answers.{no_refusal};
 ghost use Rattle.spec_wire.specs.Refusals.{when◌refuse◌else◌};
 ghost use Rattle.spec_arbiter.specs.Boards.{empty};
 ghost use Rattle.spec_arbiter.specs.Claims.{waiting};
@@ -12,11 +12,8 @@ ghost use Rattle.spec_rack.specs.RecordLayout.{block_offset, claims_offset, get,
 ghost use Rattle.record.specs.Needs.{InLayout};
 ghost use Rattle.step_checks.specs.Checked.{is_pass, board_lines};
 
-use spec_rack::{
-    Answer, BLOCK_COUNT_OFFSET, BLOCK_SIZE, BLOCKS_OFFSET, BOARD_COUNT_OFFSET, CLAIMS_OFFSET,
-    MESH_LIMIT, MESSAGE_COUNT_OFFSET, Reply,
-};
-use spec_wire::{Check, Refusal};
+use spec_rack::{Answer, BLOCK_COUNT_OFFSET, BLOCK_SIZE, BLOCKS_OFFSET, BOARD_COUNT_OFFSET, CLAIMS_OFFSET, MESH_LIMIT, MESSAGE_COUNT_OFFSET};
+use spec_wire::{Refusal};
 
 // Whether the component is above N or the block not below B.
 pub fn off_rack(rec: &[u8], component: u8, block: u8) -> bool
@@ -48,17 +45,17 @@ pub fn at_home(component: u8) -> bool
 }
 
 // What a raise and a lower ask first: a component and a block on the rack, and no home memory.
-pub fn board_check(rec: &[u8], component: u8, block: u8) -> Check
+pub fn board_check(rec: &[u8], component: u8, block: u8) -> Result<(), Refusal>
     requires { InLayout rec.now }
-    ensures { result ≡ board_lines (get rec.now) component block Pass }
+    ensures { result ≡ board_lines (get rec.now) component block no_refusal }
 {
     if off_rack(rec, component, block) {
-        return Check::Refuse(Refusal::OffRack);
+        return Err(Refusal::OffRack);
     }
     if at_home(component) {
-        return Check::Refuse(Refusal::Home);
+        return Err(Refusal::Home);
     }
-    Check::Pass
+    Check::no_refusal
 }
 
 // The offset of a block's claims.
@@ -92,31 +89,31 @@ pub fn mesh_full(rec: &[u8]) -> bool
 }
 
 // A line of the table: the refusal if the test passes, else the verdict of the lines below. A table of such lines has no branch.
-pub fn line(test: bool, refusal: Refusal, below: Check) -> Check
+pub fn line(test: bool, refusal: Refusal, below: Result<(), Refusal>) -> Result<(), Refusal>
     ensures { result ≡ (when test refuse refusal else below) }
 {
     if test {
-        return Check::Refuse(refusal);
+        return Err(refusal);
     }
     below
 }
 
 // Whether a verdict lets the step pass.
-pub fn is_pass(verdict: Check) -> bool
+pub fn is_pass(verdict: Result<(), Refusal>) -> bool
     ensures { result ≡ is_pass verdict }
 {
     match verdict {
-        Check::Pass => true,
-        Check::Refuse(_) => false,
+        Check::no_refusal => true,
+        Err(_) => false,
     }
 }
 
 // The reply to a step that gives only "done".
-pub fn reply_of(verdict: Check) -> Reply
+pub fn reply_of(verdict: Result<(), Refusal>) -> Result<Answer, Refusal>
     ensures { result ≡ reply_of verdict }
 {
     match verdict {
-        Check::Pass => Reply::Accepted(Answer::Done),
-        Check::Refuse(refusal) => Reply::Refused(refusal),
+        Check::no_refusal => Ok(Answer::Done),
+        Err(refusal) => Err(refusal),
     }
 }

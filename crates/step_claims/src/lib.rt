@@ -7,10 +7,10 @@ ghost use Rattle.spec_rack.specs.RecordLayout.{get};
 ghost use Rattle.record.specs.Needs.{InLayout, SoundRecord};
 ghost use Rattle.spec_rack.specs.Entries.{reply_to_step, buffer_after};
 
-use spec_rack::{Answer, BOARD_COUNT_OFFSET, Reply};
-use spec_wire::{Check, Step};
+use spec_rack::{Answer, BOARD_COUNT_OFFSET};
+use spec_wire::{Step};
 
-fn raise_check(rec: &[u8], component: u8, block: u8) -> Check
+fn raise_check(rec: &[u8], component: u8, block: u8) -> Result<(), Refusal>
     requires { InLayout rec.now }
     ensures { result ≡ check (get rec.now) (Step.Raise component block) }
 {
@@ -21,7 +21,7 @@ fn raise_check(rec: &[u8], component: u8, block: u8) -> Check
     arbiter::claims::raise_check(rec, step_checks::claims_offset(block), component)
 }
 
-fn lower_check(rec: &[u8], component: u8, block: u8) -> Check
+fn lower_check(rec: &[u8], component: u8, block: u8) -> Result<(), Refusal>
     requires { InLayout rec.now }
     ensures { result ≡ check (get rec.now) (Step.Lower component block) }
 {
@@ -32,7 +32,7 @@ fn lower_check(rec: &[u8], component: u8, block: u8) -> Check
     arbiter::claims::lower_check(rec, step_checks::claims_offset(block), component)
 }
 
-pub fn raise(rec: &mut [u8], component: u8, block: u8) -> Reply
+pub fn raise(rec: &mut [u8], component: u8, block: u8) -> Result<Answer, Refusal>
     requires { SoundRecord rec.old }
     ensures reply { result ≡ reply_to_step rec.old (Step.Raise component block) }
     ensures buffer { rec.new ≡ buffer_after rec.old (Step.Raise component block) }
@@ -40,12 +40,12 @@ pub fn raise(rec: &mut [u8], component: u8, block: u8) -> Reply
     let verdict = raise_check(rec, component, block);
     if step_checks::is_pass(verdict) {
         arbiter::change::raise_at(rec, step_checks::claims_offset(block), component);
-        return Reply::Accepted(Answer::Done);
+        return Ok(Answer::Done);
     }
     step_checks::reply_of(verdict)
 }
 
-pub fn lower(rec: &mut [u8], component: u8, block: u8) -> Reply
+pub fn lower(rec: &mut [u8], component: u8, block: u8) -> Result<Answer, Refusal>
     requires { SoundRecord rec.old }
     ensures reply { result ≡ reply_to_step rec.old (Step.Lower component block) }
     ensures buffer { rec.new ≡ buffer_after rec.old (Step.Lower component block) }
@@ -54,7 +54,7 @@ pub fn lower(rec: &mut [u8], component: u8, block: u8) -> Reply
     if step_checks::is_pass(verdict) {
         let boards = rec[BOARD_COUNT_OFFSET];
         arbiter::change::lower_at(rec, step_checks::claims_offset(block), boards, component);
-        return Reply::Accepted(Answer::Done);
+        return Ok(Answer::Done);
     }
     step_checks::reply_of(verdict)
 }

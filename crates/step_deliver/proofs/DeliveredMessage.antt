@@ -11,13 +11,13 @@ use Rattle.spec_base.specs.Folds.{remove_at}
 use Rattle.spec_base.proofs.Folds.{all_removed, length_removed}
 use Rattle.spec_base.proofs.Tests.{cond_of}
 use Rattle.spec_base.specs.Number.{Bytes}
-use Rattle.spec_wire.specs.declared.Check.TheVariants.{Pass}
+use Rattle.std.specs.Prelude.{Ok}
+use Rattle.spec_wire.specs.Answers.{no_refusal}
 use Rattle.spec_wire.specs.declared.Step.TheVariants.{Deliver}
 use Rattle.spec_rack.specs.declared.Owner.TheVariants.{Away}
 use Rattle.spec_rack.specs.declared.MessageHeader.{MessageHeader}
 use Rattle.spec_rack.specs.declared.Message.{Message}
 use Rattle.spec_rack.specs.declared.Answer.TheVariants.{Served}
-use Rattle.spec_rack.specs.declared.Reply.TheVariants.{Accepted}
 use Rattle.spec_rack.specs.Rack.{Cell, Rack, present, supplied, cell_at, message_at}
 use Rattle.spec_rack.specs.Rules.{with_cell, with_tokens, delivered, check, answer, after}
 use Rattle.spec_rack.specs.RecordLayout.{get, put, messages_in}
@@ -38,10 +38,10 @@ use Rattle.step_deliver.specs.Filling.{CanFill}
 
 -- ---- before anything is changed
 
-pub in_mesh_lem : (s : List ℕ) (i : ℕ) → SoundRecord s × (check (get s) (Deliver i) ≡ Pass) → i < messages_in s
+pub in_mesh_lem : (s : List ℕ) (i : ℕ) → SoundRecord s × (check (get s) (Deliver i) ≡ no_refusal) → i < messages_in s
 in_mesh_lem s i pre = deliver_passed s pre.0 i pre.1
 
-pub can_fill : (s : List ℕ) (i : ℕ) (h : MessageHeader) → SoundRecord s × (check (get s) (Deliver i) ≡ Pass) → h ≡ (message_at (get s) i).header → CanFill s i h
+pub can_fill : (s : List ℕ) (i : ℕ) (h : MessageHeader) → SoundRecord s × (check (get s) (Deliver i) ≡ no_refusal) → h ≡ (message_at (get s) i).header → CanFill s i h
 can_fill s i h pre e =
     let known = message_sound (get s) (rack_sound s pre.0.sound) i (omega (arith, mesh_is s, in_mesh_lem s i pre)) in
     record {
@@ -58,8 +58,8 @@ can_fill s i h pre e =
     }
 
 -- the reply is what the header says
-pub served_is : (s : List ℕ) (i : ℕ) (h : MessageHeader) → SoundRecord s × (check (get s) (Deliver i) ≡ Pass) → h ≡ (message_at (get s) i).header
-    → Accepted (Served h.target h.block) ≡ reply_to_step s (Deliver i)
+pub served_is : (s : List ℕ) (i : ℕ) (h : MessageHeader) → SoundRecord s × (check (get s) (Deliver i) ≡ no_refusal) → h ≡ (message_at (get s) i).header
+    → Ok (Served h.target h.block) ≡ reply_to_step s (Deliver i)
 unfolding answer
 served_is s i h pre e = accepted_is s (Deliver i) (sym pre.1) (ap (λ (k : MessageHeader). Served k.target k.block) e)
 
@@ -175,7 +175,7 @@ module _ (s : List ℕ) (bytes : Bytes s) (i : ℕ) (h : MessageHeader) (can : C
 
 -- ---- from the bytes at the start, by what each call left
 
-module _ (s : List ℕ) (known : (k : ℕ) → Fits w8 (get_or s k 0)) (i : ℕ) (h : MessageHeader) (pre : SoundRecord s × (check (get s) (Deliver i) ≡ Pass)) (e : h ≡ (message_at (get s) i).header)
+module _ (s : List ℕ) (known : (k : ℕ) → Fits w8 (get_or s k 0)) (i : ℕ) (h : MessageHeader) (pre : SoundRecord s × (check (get s) (Deliver i) ≡ no_refusal)) (e : h ≡ (message_at (get s) i).header)
     (s₁ : List ℕ) (is : s₁ ≡ put (replace_cell (get s) h.block h.target (with_tokens (cell_at (get s) h.block h.target) (message_at (get s) i))) s) where
   bytes : Bytes s
   bytes = λ k. (known k).fits

@@ -2,7 +2,7 @@
 #![tactic(auto)]
 
 ghost use Rattle.std.specs.Prelude.{◌≡◌};
-ghost use Rattle.spec_wire.specs.declared.Check.TheVariants.{Pass};
+ghost use Rattle.spec_wire.specs.Answers.{no_refusal};
 ghost use Rattle.spec_rack.specs.Rack.{cell_at, message_at};
 ghost use Rattle.spec_rack.specs.Rules.{with_tokens, check};
 ghost use Rattle.spec_rack.specs.RecordLayout.{get, put};
@@ -11,7 +11,7 @@ ghost use Rattle.spec_rack.specs.Entries.{reply_to_step, buffer_after};
 ghost use Rattle.record.specs.Changes.{replace_cell};
 ghost use Rattle.step_deliver.specs.Filling.{CanFill};
 
-use spec_rack::{Answer, MESSAGE_COUNT_OFFSET, MessageHeader, Reply};
+use spec_rack::{Answer, MESSAGE_COUNT_OFFSET, MessageHeader};
 use spec_wire::{Refusal, Step};
 
 // Gives the target what the message at a position brings: its words where it has data, and its tokens.
@@ -29,28 +29,28 @@ fn fill_target(rec: &mut [u8], position: u8, header: MessageHeader)
 }
 
 // Fills the target, then takes the message out of the mesh: the removal moves other messages over its words. The reply is of the message that was there.
-fn deliver_message(rec: &mut [u8], position: u8) -> Reply
-    requires { SoundRecord rec.old × (check (get rec.old) (Step.Deliver position) ≡ Pass) }
+fn deliver_message(rec: &mut [u8], position: u8) -> Result<Answer, Refusal>
+    requires { SoundRecord rec.old × (check (get rec.old) (Step.Deliver position) ≡ no_refusal) }
     ensures reply { result ≡ reply_to_step rec.old (Step.Deliver position) }
     ensures buffer { rec.new ≡ buffer_after rec.old (Step.Deliver position) }
 {
     let header = record_mesh::header_at(rec, position);
     fill_target(rec, position, header);
     record_mesh::remove(rec, position);
-    Reply::Accepted(Answer::Served {
+    Ok(Answer::Served {
         component: header.target,
         block: header.block,
     })
 }
 
 // With both replies as arms of one `if` the compiler packs each where it is made.
-pub fn deliver(rec: &mut [u8], position: u8) -> Reply
+pub fn deliver(rec: &mut [u8], position: u8) -> Result<Answer, Refusal>
     requires { SoundRecord rec.old }
     ensures reply { result ≡ reply_to_step rec.old (Step.Deliver position) }
     ensures buffer { rec.new ≡ buffer_after rec.old (Step.Deliver position) }
 {
     if rec[MESSAGE_COUNT_OFFSET] <= position {
-        Reply::Refused(Refusal::NoMessage)
+        Err(Refusal::NoMessage)
     } else {
         deliver_message(rec, position)
     }

@@ -7,8 +7,7 @@ use lib.Dec.{eqb, ltb}
 use Rattle.spec_base.specs.Folds.{toℕ}
 use Rattle.spec_wire.specs.declared.Refusal.{Refusal}
 use Rattle.spec_wire.specs.declared.Refusal.TheVariants.{Empty, NotHeld, BareOwner, NoData, MeshFull}
-use Rattle.spec_wire.specs.declared.Check.{Check}
-use Rattle.spec_wire.specs.declared.Check.TheVariants.{Pass}
+use Rattle.spec_wire.specs.Answers.{Check, no_refusal}
 use Rattle.spec_wire.specs.Refusals.{when◌refuse◌else◌}
 use Rattle.spec_arbiter.specs.Boards.{empty}
 use Rattle.spec_arbiter.specs.Claims.{waiting, unclaimed}
@@ -31,7 +30,7 @@ marks_tell : {x : Cell} {m : TokenState} → TokenStateOf x m → (t p : ℕ) (o
     when o && not d && not (may_go_bare x.owner t) refuse BareOwner else
     when d && not x.valid refuse NoData else
     when full refuse MeshFull else
-    Pass)
+    no_refusal)
 marks_tell is t p o d full =
     λ i.
     when eqb (p + toℕ o) 0 refuse Empty else
@@ -39,7 +38,7 @@ marks_tell is t p o d full =
     when o && not d && not (may_go_bare (is.owner i) t) refuse BareOwner else
     when d && not (is.valid i) refuse NoData else
     when full refuse MeshFull else
-    Pass
+    no_refusal
 
 -- after the test for off rack the target is what is left of the line
 pub target_is : (s : List ℕ) (c b t : ℕ) (off : Bool) → off ≡ off_rack (get s) c b → off ≡ false → ltb (boards_in s) t ≡ (off_rack (get s) c b || ltb (get s).boards t)
@@ -57,5 +56,5 @@ pub tokens_are : (s : List ℕ) (c b t p : ℕ) (o d : Bool) (below : Check) (st
     when o && not d && not (may_go_bare (cell_at (get s) b c).owner t) refuse BareOwner else
     when d && not (cell_at (get s) b c).valid refuse NoData else
     when mesh_full (get s) refuse MeshFull else
-    Pass)
+    no_refusal)
 tokens_are s c b t p o d below state is told = is ∙ marks_tell told t p o d (mesh_full (get s))

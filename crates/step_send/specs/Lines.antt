@@ -2,8 +2,7 @@
 use Rattle.std.specs.Prelude.{ℕ, ◌+◌, Bool, not, ◌&&◌, ◌||◌, eqb, ltb}
 use Rattle.spec_base.specs.Folds.{toℕ}
 use Rattle.spec_wire.specs.declared.Refusal.TheVariants.{Empty, NotHeld, BareOwner, NoData, MeshFull}
-use Rattle.spec_wire.specs.declared.Check.{Check}
-use Rattle.spec_wire.specs.declared.Check.TheVariants.{Pass}
+use Rattle.spec_wire.specs.Answers.{Check, no_refusal}
 use Rattle.spec_wire.specs.Refusals.{when◌refuse◌else◌}
 use Rattle.spec_rack.specs.Rack.{present, may_go_bare}
 use Rattle.record.specs.declared.TokenState.{TokenState}
@@ -16,4 +15,4 @@ token_lines m t p o d full =
     when o && not d && not (may_go_bare m.owner t) refuse BareOwner else
     when d && not m.valid refuse NoData else
     when full refuse MeshFull else
-    Pass
+    no_refusal

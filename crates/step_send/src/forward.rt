@@ -1,6 +1,6 @@
 // Forward: its lines of the refusal table, and the send of all that is held to the active board where it passes.
 ghost use Rattle.std.specs.Prelude.{◌≡◌};
-ghost use Rattle.spec_wire.specs.declared.Check.TheVariants.{Pass};
+ghost use Rattle.spec_wire.specs.Answers.{no_refusal};
 ghost use Rattle.spec_rack.specs.Rules.{check, after};
 ghost use Rattle.spec_rack.specs.RecordLayout.{get, put};
 ghost use Rattle.spec_rack.specs.Entries.{reply_to_step, buffer_after};
@@ -9,19 +9,19 @@ ghost use Rattle.record.specs.Needs.{InLayout, SoundRecord};
 use super::send::send_tokens;
 use arbiter::sets;
 use record::owner::is_present;
-use spec_rack::{Answer, Reply};
-use spec_wire::{Check, Refusal, Step};
+use spec_rack::{Answer};
+use spec_wire::{Refusal, Step};
 
-fn forward_check(rec: &[u8], component: u8, block: u8) -> Check
+fn forward_check(rec: &[u8], component: u8, block: u8) -> Result<(), Refusal>
     requires { InLayout rec.now }
     ensures { result ≡ check (get rec.now) (Step.Forward component block) }
 {
     if step_checks::off_rack(rec, component, block) {
-        return Check::Refuse(Refusal::OffRack);
+        return Err(Refusal::OffRack);
     }
     let boards = step_checks::waiting_set(rec, block);
     let held = step_tokens::held(record::cells::token_state(rec, block, component));
-    let full = step_checks::line(step_checks::mesh_full(rec), Refusal::MeshFull, Check::Pass);
+    let full = step_checks::line(step_checks::mesh_full(rec), Refusal::MeshFull, Check::no_refusal);
     let none = step_checks::line(held == 0, Refusal::NoToken, full);
     let apart = step_checks::line(component == sets::lowest(boards), Refusal::SelfSend, none);
     step_checks::line(boards == 0, Refusal::Unclaimed, apart)
@@ -29,7 +29,7 @@ fn forward_check(rec: &[u8], component: u8, block: u8) -> Check
 
 // Sends all that is held to the active board, with data where it is valid.
 fn forward_tokens(rec: &mut [u8], component: u8, block: u8)
-    requires { SoundRecord rec.old × (check (get rec.old) (Step.Forward component block) ≡ Pass) }
+    requires { SoundRecord rec.old × (check (get rec.old) (Step.Forward component block) ≡ no_refusal) }
     ensures { rec.new ≡ put (after (get rec.old) (Step.Forward component block)) rec.old }
 {
     let target = arbiter::claims::active_at(rec, step_checks::claims_offset(block));
@@ -48,7 +48,7 @@ fn forward_tokens(rec: &mut [u8], component: u8, block: u8)
 }
 
 // A forward: refused, with nothing changed, or made.
-pub fn forward(rec: &mut [u8], component: u8, block: u8) -> Reply
+pub fn forward(rec: &mut [u8], component: u8, block: u8) -> Result<Answer, Refusal>
     requires { SoundRecord rec.old }
     ensures reply { result ≡ reply_to_step rec.old (Step.Forward component block) }
     ensures buffer { rec.new ≡ buffer_after rec.old (Step.Forward component block) }
@@ -56,7 +56,7 @@ pub fn forward(rec: &mut [u8], component: u8, block: u8) -> Reply
     let verdict = forward_check(rec, component, block);
     if step_checks::is_pass(verdict) {
         forward_tokens(rec, component, block);
-        return Reply::Accepted(Answer::Done);
+        return Ok(Answer::Done);
     }
     step_checks::reply_of(verdict)
 }

@@ -12,8 +12,8 @@ ghost use Rattle.step_send.specs.Lines.{token_lines};
 use base::{both, either};
 use record::TokenState;
 use record::owner::is_present;
-use spec_rack::{Answer, BOARD_COUNT_OFFSET, Message, MessageHeader, Owner, Reply};
-use spec_wire::{Check, Refusal, Step};
+use spec_rack::{Answer, BOARD_COUNT_OFFSET, Message, MessageHeader, Owner};
+use spec_wire::{Refusal, Step};
 
 // What a send asks of the sender's state and the mesh, once its ends and its block are known and free.
 fn token_lines(
@@ -23,11 +23,11 @@ fn token_lines(
     plain: u8,
     owner: bool,
     data: bool,
-) -> Check
+) -> Result<(), Refusal>
     requires { InLayout rec.now }
     ensures { result ≡ token_lines state target plain owner «data» (mesh_full (get rec.now)) }
 {
-    let full = step_checks::line(step_checks::mesh_full(rec), Refusal::MeshFull, Check::Pass);
+    let full = step_checks::line(step_checks::mesh_full(rec), Refusal::MeshFull, Ok(()));
     let stale = step_checks::line(both(data, !state.valid), Refusal::NoData, full);
     let token = state.owner;
     let bare = step_checks::line(
@@ -52,12 +52,12 @@ fn send_check(
     plain: u8,
     owner: bool,
     data: bool,
-) -> Check
+) -> Result<(), Refusal>
     requires { InLayout rec.now }
     ensures { result ≡ check (get rec.now) (Step.Send component block target plain owner «data») }
 {
     if step_checks::off_rack(rec, component, block) {
-        return Check::Refuse(Refusal::OffRack);
+        return Err(Refusal::OffRack);
     }
     let state = record::cells::token_state(rec, block, component);
     let below = token_lines(rec, state, target, plain, owner, data);
@@ -136,7 +136,7 @@ pub fn send(
     plain: u8,
     owner: bool,
     data: bool,
-) -> Reply
+) -> Result<Answer, Refusal>
     requires { SoundRecord rec.old }
     ensures reply { result ≡ reply_to_step rec.old (Step.Send component block target plain owner «data») }
     ensures buffer { rec.new ≡ buffer_after rec.old (Step.Send component block target plain owner «data») }
@@ -144,7 +144,7 @@ pub fn send(
     let verdict = send_check(rec, component, block, target, plain, owner, data);
     if step_checks::is_pass(verdict) { // a refused send takes no token
         send_tokens(rec, component, block, target, plain, owner, data);
-        return Reply::Accepted(Answer::Done);
+        return Ok(Answer::Done);
     }
     step_checks::reply_of(verdict)
 }

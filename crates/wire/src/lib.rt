@@ -3,31 +3,31 @@
 #![tactic(auto)]
 
 ghost use Rattle.std.specs.Prelude.{◌≡◌};
-ghost use Rattle.spec_wire.specs.declared.Reading.{Reading};
+ghost use Rattle.spec_wire.specs.Answers.{Reading};
 ghost use Rattle.spec_wire.specs.RoundTrip.{rewritten, replaced};
 
-use spec_wire::{Reading, Step, Written};
+use spec_wire::{Step};
 
 pub mod exports;
 
 // A step, written and read again, is the same step.
-pub fn written_and_read(step: Step) -> Reading
-    ensures { result ≡ Reading.Step step }
+pub fn written_and_read(step: Step) -> Result<Step, Refusal>
+    ensures { result ≡ Ok step }
 {
     let mut out = [0u8; 27];
     match wire_writer::write(step, &mut out, 0) {
-        Written::Count(n) => wire_reader::read(&out[..n]),
-        Written::Refused(refusal) => Reading::Refused(refusal),
+        Ok(n) => wire_reader::read(&out[..n]),
+        Err(refusal) => Err(refusal),
     }
 }
 
 // Bytes, read and written again to the front of `out`, are the same bytes.
-pub fn read_and_written(bytes: &[u8], out: &mut [u8]) -> Written
+pub fn read_and_written(bytes: &[u8], out: &mut [u8]) -> Result<usize, Refusal>
     ensures answer { result ≡ rewritten bytes.now out.old }
     ensures buffer { out.new ≡ replaced bytes.now out.old }
 {
     match wire_reader::read(bytes) {
-        Reading::Step(step) => wire_writer::write(step, out, 0),
-        Reading::Refused(refusal) => Written::Refused(refusal),
+        Ok(step) => wire_writer::write(step, out, 0),
+        Err(refusal) => Err(refusal),
     }
 }

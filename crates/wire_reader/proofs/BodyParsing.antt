@@ -13,7 +13,7 @@ use Rattle.spec_wire.specs.declared.Step.TheVariants.{Raise, Lower, Forward}
 use Rattle.spec_wire.specs.Kinds.{component, block, no_field, Kind, no_kind, kind_of}
 use Rattle.spec_wire.specs.StepRecord.{field_sizes}
 use Rattle.spec_wire.proofs.KindTable.{kind_none}
-use Rattle.spec_wire.specs.declared.Reading.TheVariants.{Step as Read, Refused}
+use Rattle.std.specs.Prelude.{Ok, Err}
 use Rattle.spec_wire.specs.Reader.{body_parses, read_body}
 use Rattle.wire_reader.specs.Parsing.{FieldParsed}
 use Rattle.spec_wire.proofs.BodyTrips.{no_field_lem, torn_body}
@@ -57,7 +57,7 @@ claim_size k l h = sized (claims_kind k l h)
     sized (claiming f is) = rw is refl
 
 -- any other kind byte is no kind, and no bytes have its field
-pub no_kind_lem : (k : ℕ) (s : List ℕ) → (0x10 ≤ k → k ≤ 0x16 → ⊥) → Refused Torn ≡ read_body k s
+pub no_kind_lem : (k : ℕ) (s : List ℕ) → (0x10 ≤ k → k ≤ 0x16 → ⊥) → Err Torn ≡ read_body k s
 no_kind_lem k s h = torn_body k s (rw none (⊎_elim (λ e. absurd (no_field_lem s e)) (λ e. e) (either (body_parses (no_field ∷ []) s))))
   where
     off : (n : ℕ) → 0x10 ≤ n → n ≤ 0x16 → k ≡ n → ⊥
@@ -84,11 +84,11 @@ module _ (k : ℕ) (s : List ℕ) (n : length s ≡ 8) (t u : Bool) (x y : ℕ) 
   seen : List (Bool × ℕ)
   seen = (t, x) ∷ (u, y) ∷ []
 
-  claim_reads : (v : Bool) → v ≡ (t && u) → (r : Step) → r ≡ (kind_of k).step (k ∷ x ∷ y ∷ []) → Claiming k → cond v (Read r) (Refused Torn) ≡ read_body k s
+  claim_reads : (v : Bool) → v ≡ (t && u) → (r : Step) → r ≡ (kind_of k).step (k ∷ x ∷ y ∷ []) → Claiming k → cond v (Ok r) (Err Torn) ≡ read_body k s
   unfolding seen
   claim_reads v ev r er (claiming f is) =
       let told : r ≡ (kind_of k).step (puts (kind_of k).fields seen (k ∷ 0 ∷ 0 ∷ 0 ∷ 0 ∷ 0 ∷ 0 ∷ 0 ∷ 0 ∷ 0 ∷ 0 ∷ 0 ∷ [])) = er ∙ rw is refl in
-      ap (λ (q : Step). cond v (Read q) (Refused Torn)) told ∙ kind_reads k s v seen ev (rw is refl) (rw is (c, (b, sym n)))
+      ap (λ (q : Step). cond v (Ok q) (Err Torn)) told ∙ kind_reads k s v seen ev (rw is refl) (rw is (c, (b, sym n)))
 
-  pub claim_read : 0x14 ≤ k → k ≤ 0x16 → (v : Bool) → v ≡ (t && u) → (r : Step) → r ≡ (kind_of k).step (k ∷ x ∷ y ∷ []) → cond v (Read r) (Refused Torn) ≡ read_body k s
+  pub claim_read : 0x14 ≤ k → k ≤ 0x16 → (v : Bool) → v ≡ (t && u) → (r : Step) → r ≡ (kind_of k).step (k ∷ x ∷ y ∷ []) → cond v (Ok r) (Err Torn) ≡ read_body k s
   claim_read l h v ev r er = claim_reads v ev r er (claims_kind k l h)

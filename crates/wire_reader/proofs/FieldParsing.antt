@@ -16,7 +16,7 @@ use Rattle.spec_wire.specs.declared.Refusal.TheVariants.{Torn}
 use Rattle.spec_wire.specs.declared.Field.{Field}
 use Rattle.spec_wire.specs.Kinds.{kind_of, field_of, no_field}
 use Rattle.spec_wire.specs.StepRecord.{field_size, field_sizes}
-use Rattle.spec_wire.specs.declared.Reading.TheVariants.{Step as Read, Refused}
+use Rattle.std.specs.Prelude.{Ok, Err}
 use Rattle.spec_wire.specs.Reader.{has_header, value_at, field_parses, body_parses, field_values, read_body}
 use Rattle.wire_reader.specs.Parsing.{TagSeen, FieldRoom, FieldParsed}
 use Rattle.spec_wire.proofs.KindTable.{tag_unknown}
@@ -166,13 +166,13 @@ length_filled (f ∷ fs) bs e =
     omega (arith, length_filled fs (drop (field_size f) bs) k.rest, length-drop (field_size f) bs, k.head.long)
 
 module _ (k : ℕ) (s : List ℕ) where
-  pub other_length : (length s ≡ field_sizes (kind_of k).fields → ⊥) → Refused Torn ≡ read_body k s
+  pub other_length : (length s ≡ field_sizes (kind_of k).fields → ⊥) → Err Torn ≡ read_body k s
   other_length n = torn_body k s (⊎_elim (λ h. absurd (n (length_filled (kind_of k).fields s h))) (λ h. h) (either (body_parses (kind_of k).fields s)))
 
   -- fields that were seen, and their numbers
   pub kind_reads : (t : Bool) (xs : List (Bool × ℕ)) → t ≡ all xs → length xs ≡ length (kind_of k).fields → Reads (kind_of k).fields 0 s xs
-      → cond t (Read ((kind_of k).step (puts (kind_of k).fields xs (k ∷ 0 ∷ 0 ∷ 0 ∷ 0 ∷ 0 ∷ 0 ∷ 0 ∷ 0 ∷ 0 ∷ 0 ∷ 0 ∷ [])))) (Refused Torn) ≡ read_body k s
+      → cond t (Ok ((kind_of k).step (puts (kind_of k).fields xs (k ∷ 0 ∷ 0 ∷ 0 ∷ 0 ∷ 0 ∷ 0 ∷ 0 ∷ 0 ∷ 0 ∷ 0 ∷ 0 ∷ [])))) (Err Torn) ≡ read_body k s
   kind_reads true xs e l h =
-      ap (λ (p : List ℕ). Read ((kind_of k).step p)) (sym (gathered_reads (kind_of k).fields 0 s xs _ h (sym e)))
+      ap (λ (p : List ℕ). Ok ((kind_of k).step p)) (sym (gathered_reads (kind_of k).fields 0 s xs _ h (sym e)))
       ∙ step_body k s (sym (fill_reads (kind_of k).fields 0 s xs l h) ∙ sym e)
   kind_reads false xs e l h = torn_body k s (sym (fill_reads (kind_of k).fields 0 s xs l h) ∙ sym e)

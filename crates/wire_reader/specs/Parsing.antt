@@ -1,9 +1,8 @@
 -- Document 01, "Step records": what the parser's parts say of a field and of a body.
-use Rattle.std.specs.Prelude.{ℕ, ◌+◌, ◌≤◌, ◌≡◌, Bool, true, cond, List, ◌⊎◌, eqb, length}
+use Rattle.std.specs.Prelude.{ℕ, ◌+◌, ◌≤◌, ◌≡◌, Bool, true, cond, List, ◌⊎◌, eqb, length, Ok, Err}
 use Rattle.spec_wire.specs.declared.Refusal.TheVariants.{Torn}
 use Rattle.spec_wire.specs.declared.Field.{Field}
-use Rattle.spec_wire.specs.declared.Reading.{Reading}
-use Rattle.spec_wire.specs.declared.Reading.TheVariants.{Step, Refused}
+use Rattle.spec_wire.specs.Answers.{Reading}
 use Rattle.wire_reader.specs.declared.body.Parsed.{Parsed}
 use Rattle.spec_wire.specs.Kinds.{component, position}
 use Rattle.spec_wire.specs.StepRecord.{field_size}
@@ -27,4 +26,4 @@ pub record FieldParsed (f : Field) (bs : List ℕ) (t : Bool) (r : ℕ) : Type 0
 
 -- what a body reads as, by what was parsed of it
 abbrev pub reading_of : Parsed → Reading
-reading_of p = cond p.ok (Step p.step) (Refused Torn)
+reading_of p = cond p.ok (Ok p.step) (Err Torn)

@@ -10,9 +10,7 @@ ghost use Rattle.spec_wire.specs.Reader.{read_body, read_record};
 ghost use Rattle.wire_reader.specs.Parsing.{reading_of};
 
 use body::Parsed;
-use spec_wire::{
-    KIND_DELIVER, KIND_FORWARD, KIND_LOAD, KIND_RAISE, KIND_SEND, KIND_STORE, Reading, Refusal,
-};
+use spec_wire::{KIND_DELIVER, KIND_FORWARD, KIND_LOAD, KIND_RAISE, KIND_SEND, KIND_STORE, Refusal};
 
 // The step of the kind with this kind byte, from its body.
 fn read_body(kind: u8, body: &[u8]) -> Parsed
@@ -29,14 +27,14 @@ fn read_body(kind: u8, body: &[u8]) -> Parsed
 }
 
 // What parsed bytes read as.
-fn reading_of(parsed: Parsed) -> Reading
+fn reading_of(parsed: Parsed) -> Result<Step, Refusal>
     ensures { result ≡ reading_of parsed }
 {
     let step = parsed.step;
     if parsed.ok {
-        Reading::Step(step)
+        Ok(step)
     } else {
-        Reading::Refused(Refusal::Torn)
+        Err(Refusal::Torn)
     }
 }
 
@@ -54,7 +52,7 @@ pub fn parse(bytes: &[u8]) -> Parsed
 }
 
 // The step that the bytes are the step record of.
-pub fn read(bytes: &[u8]) -> Reading
+pub fn read(bytes: &[u8]) -> Result<Step, Refusal>
     ensures { result ≡ read_record bytes.now }
 {
     reading_of(parse(bytes))

@@ -15,7 +15,7 @@ use Rattle.spec_base.proofs.Lists.{Each, each_at}
 use Rattle.spec_base.proofs.Tests.{and_l, and_r, and_of, and_under, same_test, eqb_one}
 use Rattle.spec_wire.specs.declared.Refusal.TheVariants.{Torn}
 use Rattle.spec_wire.specs.declared.Field.{Field}
-use Rattle.spec_wire.specs.declared.Reading.TheVariants.{Step, Refused}
+use Rattle.std.specs.Prelude.{Ok, Err}
 use Rattle.spec_wire.specs.Kinds.{Kind, no_kind, kind_of, field_array, kind_in, value_of, in_bounds}
 use Rattle.spec_wire.proofs.KindTable.{kind_elim, of_fit, tags_small, get_first}
 use Rattle.wire_writer.specs.FieldSum.{fields_sum_to}
@@ -103,12 +103,12 @@ module _ (total : ℕ) where
   first_made ns (f ∷ fs) h n = rw (← (first_made ns fs h.1 (n + value_of f (take 12 ns))), get_first ns f h.0)
 
 module _ (ns : List ℕ) where
-  pub few : length ns < 12 → Refused Torn ≡ step_of_array ns
+  pub few : length ns < 12 → Err Torn ≡ step_of_array ns
   unfolding step_of_array
   few h = rw (lt-leb 12 (length ns) h)
 
   pub tells : 12 ≤ length ns → (total : ℕ) → total ≡ sum_below 12 (λ i. get_or ns i 0) → (r : Bool) → r ≡ fields_sum_to (kind_of (kind_in ns)).fields (kind_in ns) total ns
-      → cond r (Step ((kind_of (kind_in ns)).step (take 12 ns))) (Refused Torn) ≡ step_of_array ns
+      → cond r (Ok ((kind_of (kind_in ns)).step (take 12 ns))) (Err Torn) ≡ step_of_array ns
   unfolding step_of_array step_of_twelve
   tells long total sums r e = rw (le-leb 12 (length ns) long, e, decided, first)
     where

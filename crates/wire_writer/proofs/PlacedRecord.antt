@@ -13,16 +13,16 @@ use Rattle.spec_base.proofs.Lists.{rest_all}
 use Rattle.spec_base.proofs.Placing.{place_rest}
 use Rattle.spec_wire.specs.declared.Refusal.{Refusal}
 use Rattle.spec_wire.specs.declared.Refusal.TheVariants.{ShortBuffer}
-use Rattle.spec_wire.specs.declared.Written.TheVariants.{Count, Refused}
+use Rattle.std.specs.Prelude.{Ok, Err}
 use Rattle.spec_wire.specs.Writer.{written, placed}
 
 -- writing, where there is room and where not
 module _ (bs : List ℕ) (at : ℕ) (out : List ℕ) where
-  pub written_room : at + length bs ≤ length out → Count (length bs) ≡ written bs at out
+  pub written_room : at + length bs ≤ length out → Ok (length bs) ≡ written bs at out
   unfolding written
   written_room h = rw (le-leb (at + length bs) (length out) h)
 
-  pub written_short : length out < at + length bs → Refused ShortBuffer ≡ written bs at out
+  pub written_short : length out < at + length bs → Err ShortBuffer ≡ written bs at out
   unfolding written
   written_short h = rw (lt-leb (at + length bs) (length out) h)
 
@@ -59,14 +59,14 @@ module _ (bs : List ℕ) (at : ℕ) (out : List ℕ) (within : at ≤ length out
       by_room (yes h) = ap back (sym (placed_room bs 0 part (omega (arith, long)))) ∙ place_rest at bs out h ∙ placed_room bs at out h
       by_room (no h) = ap back (sym (placed_short bs 0 part (omega (arith, long, h)))) ∙ put_same at (length out - at) out ∙ placed_short bs at out (omega (arith, h))
 
-pub refused_count : {r : Refusal} {n : ℕ} → Refused r ≡ Count n → ⊥
+pub refused_count : {r : Refusal} {n : ℕ} → Err r ≡ Ok n → ⊥
 refused_count e = let z : ◌≡◌ {A = ℕ} 0 1 = cc in omega arith
 
 -- The count that writing gives is the record's length.
-pub written_count : (bs : List ℕ) (at : ℕ) (out : List ℕ) (n : ℕ) → Count n ≡ written bs at out → n ≡ length bs
+pub written_count : (bs : List ℕ) (at : ℕ) (out : List ℕ) (n : ℕ) → Ok n ≡ written bs at out → n ≡ length bs
 unfolding written
 written_count bs at out n e = by_room (room_for bs at out) e
   where
-    by_room : (t : Bool) → Count n ≡ cond t (Count (length bs)) (Refused ShortBuffer) → n ≡ length bs
+    by_room : (t : Bool) → Ok n ≡ cond t (Ok (length bs)) (Err ShortBuffer) → n ≡ length bs
     by_room true r = cc
     by_room false r = absurd (refused_count (sym r))

@@ -5,14 +5,14 @@ use mathlib.Core.Bool.{Bool, true}
 use Prim.Native.Nat.{ℕ, ◌≤◌}
 use Rattle.spec_rack.specs.RecordLayout.{record_length}
 use lib.ListN.{length}
-use Rattle.spec_wire.specs.declared.Check.TheVariants.{Pass}
+use Rattle.spec_wire.specs.Answers.{no_refusal}
 use Rattle.spec_rack.specs.Soundness.{sizes}
 use Rattle.spec_rack.specs.Opening.{open_check}
 use Rattle.spec_rack.proofs.OpeningLaws.{open_size, open_short, open_pass, sized, open_refused, open_accepted}
 use Rattle.record_open.proofs.open.Goals as goal
 
 -- past both tests the opening is accepted
-pass : (n b k l : ℕ) (fits : Bool) → fits ≡ sizes n b k → fits ≡ true → record_length b ≤ l → open_check n b k l ≡ Pass
+pass : (n b k l : ℕ) (fits : Bool) → fits ≡ sizes n b k → fits ≡ true → record_length b ≤ l → open_check n b k l ≡ no_refusal
 pass n b k l fits is h room = sym (open_pass n b k l (sym is ∙ h) room)
 
 pub returns-then-not-in_range : goal.returns-then-not-in_range

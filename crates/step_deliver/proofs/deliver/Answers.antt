@@ -1,7 +1,7 @@
 -- `step_deliver::deliver` meets its contract: its test is the table's.
 use mathlib.Core.Path.{refl, sym}
 use native.Mathlib.Omega.{arith}
-use Rattle.spec_wire.specs.declared.Check.TheVariants.{Refuse}
+use Rattle.std.specs.Prelude.{Err}
 use Rattle.spec_wire.specs.declared.Step.TheVariants.{Deliver}
 use Rattle.spec_wire.specs.declared.Refusal.TheVariants.{NoMessage}
 use Rattle.spec_rack.proofs.GetPut.{mesh_is}
@@ -11,7 +11,7 @@ use Rattle.step_deliver.proofs.deliver.Goals as goal
 
 pub returns-then-rec-position : goal.returns-then-rec-position
 returns-then-rec-position c =
-    let e = kept c.args.rec.now (Deliver c.args.position) (Refuse NoMessage) (deliver_no_message _ _ (mesh_is _) (omega arith)) refl refl refl in
+    let e = kept c.args.rec.now (Deliver c.args.position) (Err NoMessage) (deliver_no_message _ _ (mesh_is _) (omega arith)) refl refl refl in
     record { reply = e.0; buffer = e.1 }
 
 pub deliver_message-requires : goal.deliver_message-requires

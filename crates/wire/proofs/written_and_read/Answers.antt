@@ -8,7 +8,7 @@ use lib.ListN.{length, take, drop}
 use lib.Seq.{length-take-le, take_at}
 use Rattle.spec_wire.specs.declared.Refusal.{Refusal}
 use Rattle.spec_wire.specs.declared.Step.{Step}
-use Rattle.spec_wire.specs.declared.Written.TheVariants.{Count, Refused}
+use Rattle.std.specs.Prelude.{Ok, Err}
 use Rattle.spec_wire.specs.StepRecord.{step_bytes}
 use Rattle.spec_wire.specs.Reader.{read_record}
 use Rattle.spec_base.specs.Placing.{place}
@@ -22,10 +22,10 @@ use Rattle.wire.proofs.written_and_read.Goals as goal
 
 module _ (s : Step) (out : List ℕ) where
   -- a buffer of 27 places has room for every record
-  never_short : length out ≡ 27 → {r : Refusal} → Refused r ≡ written (step_bytes s) 0 out → ⊥
+  never_short : length out ≡ 27 → {r : Refusal} → Err r ≡ written (step_bytes s) 0 out → ⊥
   never_short room e = refused_count (e ∙ sym (written_room (step_bytes s) 0 out (omega (arith, record_length_lem s))))
 
-  module _ (n : ℕ) (after : List ℕ) (counted : Count n ≡ written (step_bytes s) 0 out) (said : after ≡ placed (step_bytes s) 0 out) where
+  module _ (n : ℕ) (after : List ℕ) (counted : Ok n ≡ written (step_bytes s) 0 out) (said : after ≡ placed (step_bytes s) 0 out) where
     count : n ≡ length (step_bytes s)
     count = written_count (step_bytes s) 0 out n counted
 
@@ -49,17 +49,17 @@ module _ (s : Step) (out : List ℕ) where
 
 pub slice_bounds-out-end : goal.slice_bounds-out-end
 slice_bounds-out-end c =
-    within c.args.step _ _ _ c.in-Count.ensures.answer c.in-Count.ensures.buffer
+    within c.args.step _ _ _ c.in-Ok.ensures.answer c.in-Ok.ensures.buffer
 
 pub slice_bounds-read-end : goal.slice_bounds-read-end
 slice_bounds-read-end c =
-    sym (length-take-le _ _ (within c.args.step _ _ _ c.in-Count.ensures.answer c.in-Count.ensures.buffer))
+    sym (length-take-le _ _ (within c.args.step _ _ _ c.in-Ok.ensures.answer c.in-Ok.ensures.buffer))
 
-pub returns-in-Count : goal.returns-in-Count
-returns-in-Count c =
-    let back = taken c.args.step _ _ _ c.in-Count.ensures.answer c.in-Count.ensures.buffer in
+pub returns-in-Ok : goal.returns-in-Ok
+returns-in-Ok c =
+    let back = taken c.args.step _ _ _ c.in-Ok.ensures.answer c.in-Ok.ensures.buffer in
     c.read.ensures ∙ ap read_record back ∙ read_written c.args.step (step_fits c.args.step _ c.well_formed.0)
 
-pub returns-in-Refused : goal.returns-in-Refused
-returns-in-Refused c =
-    absurd (never_short c.args.step _ refl c.in-Refused.ensures.answer)
+pub returns-in-Err : goal.returns-in-Err
+returns-in-Err c =
+    absurd (never_short c.args.step _ refl c.in-Err.ensures.answer)

@@ -7,8 +7,8 @@ use native.Mathlib.Omega.{arith}
 use borrow.Author.Tests.{le-leb, lt-leb, eq-eqb, ne_eqb}
 use Rattle.spec_base.specs.Number.{number}
 use Rattle.spec_wire.specs.declared.Refusal.TheVariants.{Torn}
-use Rattle.spec_wire.specs.declared.Reading.{Reading}
-use Rattle.spec_wire.specs.declared.Reading.TheVariants.{Refused}
+use Rattle.std.specs.Prelude.{Err}
+use Rattle.spec_wire.specs.Answers.{Reading}
 use Rattle.spec_wire.specs.Reader.{read_body, read_record}
 use Rattle.spec_base.proofs.Lists.{rest_all}
 use Rattle.spec_base.proofs.WordBytes.{big_read}
@@ -16,11 +16,11 @@ use Rattle.wire_reader.proofs.parse.Goals as goal
 
 -- what `read_record` is, by the first test that fails, or the body
 module _ (bs : List ℕ) where
-  short : length bs < 3 → Refused Torn ≡ read_record bs
+  short : length bs < 3 → Err Torn ≡ read_record bs
   unfolding read_record
   short h = simp (lt-leb 3 (length bs) h)
 
-  other_length : (n : ℕ) → 3 ≤ length bs → n ≡ number (take 2 (drop 1 bs)) → (n ≡ length bs - 3 → ⊥) → Refused Torn ≡ read_record bs
+  other_length : (n : ℕ) → 3 ≤ length bs → n ≡ number (take 2 (drop 1 bs)) → (n ≡ length bs - 3 → ⊥) → Err Torn ≡ read_record bs
   unfolding read_record
   other_length n h e k = simp (le-leb 3 (length bs) h, ← e, ne_eqb n (length bs - 3) k)
 

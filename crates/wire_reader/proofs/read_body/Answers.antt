@@ -3,7 +3,7 @@ use mathlib.Core.Path.{◌≡◌, sym, ap, ◌∙◌}
 use Prim.Native.Nat.{ℕ}
 use native.Mathlib.Omega.{arith}
 use mathlib.Core.List.{List}
-use Rattle.spec_wire.specs.declared.Reading.{Reading}
+use Rattle.spec_wire.specs.Answers.{Reading}
 use Rattle.spec_wire.specs.Reader.{read_body}
 use Rattle.wire_reader.proofs.BodyParsing.{no_kind_lem}
 use Rattle.wire_reader.proofs.read_body.Goals as goal

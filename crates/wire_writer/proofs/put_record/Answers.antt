@@ -1,6 +1,6 @@
 -- `wire_writer::put_record` meets its contract: the kind, the length and the fields are placed one after the other.
 use Rattle.spec_wire.specs.declared.Refusal.TheVariants.{ShortBuffer}
-use Rattle.spec_wire.specs.declared.Written.TheVariants.{Count, Refused}
+use Rattle.std.specs.Prelude.{Ok, Err}
 use Rattle.spec_base.specs.Placing.{place}
 use Rattle.spec_wire.specs.Writer.{written, placed}
 use mathlib.Core.Path.{◌≡◌, sym, ap, ◌∙◌}
@@ -42,11 +42,11 @@ module _ (kind : ℕ) (out tags p : List ℕ) (n : ℕ) (sized : n ≡ field_siz
   whole : length (record_bytes kind body) ≡ 3 + n
   whole = length_record kind body ∙ ap (λ (k : ℕ). 3 + k) (sym count)
 
-  no_room : length out < 3 + n → (Refused ShortBuffer ≡ written (record_bytes kind body) 0 out) × (out ≡ placed (record_bytes kind body) 0 out)
+  no_room : length out < 3 + n → (Err ShortBuffer ≡ written (record_bytes kind body) 0 out) × (out ≡ placed (record_bytes kind body) 0 out)
   no_room h = (written_short (record_bytes kind body) 0 out (omega (arith, whole)), placed_short (record_bytes kind body) 0 out (omega (arith, whole)))
 
-  room : {after : List ℕ} → 3 + n ≤ length out → after ≡ place 0 (record_bytes kind body) out → (Count (3 + n) ≡ written (record_bytes kind body) 0 out) × (after ≡ placed (record_bytes kind body) 0 out)
-  room h e = (ap Count (sym whole) ∙ written_room (record_bytes kind body) 0 out (omega (arith, whole)), e ∙ placed_room (record_bytes kind body) 0 out (omega (arith, whole)))
+  room : {after : List ℕ} → 3 + n ≤ length out → after ≡ place 0 (record_bytes kind body) out → (Ok (3 + n) ≡ written (record_bytes kind body) 0 out) × (after ≡ placed (record_bytes kind body) 0 out)
+  room h e = (ap Ok (sym whole) ∙ written_room (record_bytes kind body) 0 out (omega (arith, whole)), e ∙ placed_room (record_bytes kind body) 0 out (omega (arith, whole)))
 
 pub overflow_add-total : goal.overflow_add-total
 overflow_add-total c =

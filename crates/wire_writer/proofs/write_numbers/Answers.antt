@@ -6,9 +6,8 @@ use mathlib.Core.Bool.{Bool, true, false, cond}
 use mathlib.Core.List.{List}
 use lib.ListN.{take}
 use Rattle.spec_wire.specs.declared.Refusal.TheVariants.{Torn}
-use Rattle.spec_wire.specs.declared.Reading.TheVariants.{Step as Read, Refused}
-use Rattle.spec_wire.specs.declared.Written.{Written}
-use Rattle.spec_wire.specs.declared.Written.TheVariants.{Refused as NotWritten}
+use Rattle.std.specs.Prelude.{Ok, Err}
+use Rattle.spec_wire.specs.Answers.{Written}
 use Rattle.spec_wire.specs.Kinds.{kind_in, kind_of}
 use Rattle.spec_wire.specs.StepRecord.{body_bytes, record_bytes}
 use Rattle.spec_wire.specs.Writer.{written, placed, written_of, placed_of}
@@ -17,13 +16,13 @@ use Rattle.spec_wire.proofs.FieldArrays.{told_kind, told_bytes}
 use Rattle.wire_writer.proofs.write_numbers.Goals as goal
 
 -- the two answers
-module _ (ns : List ℕ) (r : Bool) (decided : cond r (Read ((kind_of (kind_in ns)).step (take 12 ns))) (Refused Torn) ≡ step_of_array ns) (at : ℕ) (out : List ℕ) where
-  torn : r ≡ false → (NotWritten Torn ≡ written_of (step_of_array ns) at out) × (out ≡ placed_of (step_of_array ns) at out)
+module _ (ns : List ℕ) (r : Bool) (decided : cond r (Ok ((kind_of (kind_in ns)).step (take 12 ns))) (Err Torn) ≡ step_of_array ns) (at : ℕ) (out : List ℕ) where
+  torn : r ≡ false → (Err Torn ≡ written_of (step_of_array ns) at out) × (out ≡ placed_of (step_of_array ns) at out)
   unfolding written_of placed_of
   torn h = rw (← (rw h at decided)) (refl, refl)
 
   module _ (h : r ≡ true) where
-    tells : step_of_array ns ≡ Read ((kind_of (kind_in ns)).step (take 12 ns))
+    tells : step_of_array ns ≡ Ok ((kind_of (kind_in ns)).step (take 12 ns))
     tells = sym (rw h at decided)
 
     small : {k : ℕ} → k ≡ kind_in ns → k < 256

@@ -10,8 +10,8 @@ use Rattle.spec_wire.specs.declared.Refusal.{Refusal}
 use Rattle.spec_wire.specs.declared.Refusal.TheVariants.{Torn, ShortBuffer}
 use Rattle.spec_wire.specs.Results.{done, refused}
 use Rattle.spec_wire.specs.declared.Step.{Step}
-use Rattle.spec_wire.specs.declared.Reading.{Reading}
-use Rattle.spec_wire.specs.declared.Reading.TheVariants.{Step as Read, Refused}
+use Rattle.std.specs.Prelude.{Ok, Err}
+use Rattle.spec_wire.specs.Answers.{Reading}
 use Rattle.spec_wire.specs.Kinds.{field_array}
 use Rattle.spec_base.specs.Placing.{place}
 use Rattle.spec_wire.specs.FieldArray.{read_result, read_after}
@@ -20,19 +20,19 @@ use Rattle.wire_writer.proofs.PlacedRecord.{placed_room, placed_short}
 use Rattle.wire.proofs.exports.hyl_wire_read.Goals as goal
 
 -- a reading, by what was parsed of it
-stood : (t : Bool) (s : Step) (a : Reading) → cond t (Read s) (Refused Torn) ≡ a → t ≡ true → Read s ≡ a
-stood t s a e h = ap (λ (u : Bool). cond u (Read s) (Refused Torn)) (sym h) ∙ e
+stood : (t : Bool) (s : Step) (a : Reading) → cond t (Ok s) (Err Torn) ≡ a → t ≡ true → Ok s ≡ a
+stood t s a e h = ap (λ (u : Bool). cond u (Ok s) (Err Torn)) (sym h) ∙ e
 
-fallen : (t : Bool) (s : Step) (a : Reading) → cond t (Read s) (Refused Torn) ≡ a → t ≡ false → Refused Torn ≡ a
-fallen t s a e h = ap (λ (u : Bool). cond u (Read s) (Refused Torn)) (sym h) ∙ e
+fallen : (t : Bool) (s : Step) (a : Reading) → cond t (Ok s) (Err Torn) ≡ a → t ≡ false → Err Torn ≡ a
+fallen t s a e h = ap (λ (u : Bool). cond u (Ok s) (Err Torn)) (sym h) ∙ e
 
 -- the three answers
 module _ (a : Reading) where
-  torn : (r : Refusal) (out : List ℕ) {n : ℕ} → Refused r ≡ a → n ≡ refused r → (n ≡ read_result a out) × (out ≡ read_after a out)
+  torn : (r : Refusal) (out : List ℕ) {n : ℕ} → Err r ≡ a → n ≡ refused r → (n ≡ read_result a out) × (out ≡ read_after a out)
   unfolding read_result read_after
   torn r out e p = rw (← e) (p, refl)
 
-  module _ (s : Step) (out : List ℕ) (e : Read s ≡ a) where
+  module _ (s : Step) (out : List ℕ) (e : Ok s ≡ a) where
     short : length out < 12 → {n : ℕ} → n ≡ refused ShortBuffer → (n ≡ read_result a out) × (out ≡ read_after a out)
     unfolding read_result read_after
     short h p =
