@@ -110,11 +110,11 @@ one_of_all : (r : Rack) → Sound r → (j b : ℕ) → Holder r j b r.tokens �
 one_of_all r s j b h = record { on = h.on; tokens = omega (arith, some_tokens r s, h.tokens) }
 
 -- by any reply that is the rules' for the item's step
-module _ {S I : Type 0} (answered : S → I → Reply) (is : I → Step → Type 0) (rackIn : S → Rack) (s : S)
-    (by_rules : (x : I) (t : Step) → is x t → answered s x ≡ ruled_reply (rackIn s) t) where
-  pub single_writer : Sound (rackIn s) → SingleWriter answered is rackIn s
+module _ {S I : Type 0} (answered : S → I → Reply) (is : I → Step → Type 0) (rack_in : S → Rack) (s : S)
+    (by_rules : (x : I) (t : Step) → is x t → answered s x ≡ ruled_reply (rack_in s) t) where
+  pub single_writer : Sound (rack_in s) → SingleWriter answered is rack_in s
   single_writer ok x c b w v a store e =
-      let r = rackIn s in
+      let r = rack_in s in
       let all = writer r c b w v a (sym (by_rules x (Store c b w v) store) ∙ e) in
       record {
         no_reader = λ y j w' a' ne load e'. no_other r ok c b all j ne (reader r j b w' a' (sym (by_rules y (Load j b w') load) ∙ e'));

@@ -22,12 +22,12 @@ use Rattle.spec_rack.specs.Coherence.{Counts}
 
 -- Of a state from which a rack is read, by the reply that an item would get, and by which step an item is. A state is a rack and an item a step; or a state
 -- is a lent buffer and an item a byte string.
-module _ {S I : Type 0} (reply : S → I → Reply) (is : I → Step → Type 0) (rackIn : S → Rack) where
+module _ {S I : Type 0} (reply : S → I → Reply) (is : I → Step → Type 0) (rack_in : S → Rack) where
   -- component c has block b to itself: no load of the block by another component would be accepted, and no store; and no token of it is in flight
   pub record Alone (s : S) (c b : ℕ) : Type 0 where
     pub no_reader : (x : I) (j w : ℕ) (a : Answer) → (j ≡ c → ⊥) → is x (Load j b w) → reply s x ≡ Ok a → ⊥
     pub no_writer : (x : I) (j w v : ℕ) (a : Answer) → (j ≡ c → ⊥) → is x (Store j b w v) → reply s x ≡ Ok a → ⊥
-    pub none_in_flight : in_flight carried b (rackIn s).mesh ≡ 0
+    pub none_in_flight : in_flight carried b (rack_in s).mesh ≡ 0
 
   -- so it is wherever a store by c of a word of b would be accepted
   abbrev pub SingleWriter : S → Type 0

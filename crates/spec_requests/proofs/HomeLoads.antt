@@ -137,21 +137,21 @@ valid_loads r c b w ok on low =
 
 -- ---- from one item to lists
 
-module _ {S I : Type 0} (after afterBefore : S → I → S) (reply reply_before : S → I → Reply) (homeLoad : I → Bool)
+module _ {S I : Type 0} (after after_before : S → I → S) (reply reply_before : S → I → Reply) (home_load : I → Bool)
     (P : S → Type 0) (kept : (s : S) (x : I) → P s → P (after s x))
-    (left : (s : S) (x : I) → P s → after s x ≡ afterBefore s x)
+    (left : (s : S) (x : I) → P s → after s x ≡ after_before s x)
     (answered : (s : S) (x : I) (a : Answer) → reply_before s x ≡ Ok a → reply s x ≡ Ok a)
-    (other : (s : S) (x : I) → homeLoad x ≡ false → reply s x ≡ reply_before s x) where
-  same_list : (items : List I) (s : S) → P s → SameList after afterBefore reply reply_before homeLoad s items
+    (other : (s : S) (x : I) → home_load x ≡ false → reply s x ≡ reply_before s x) where
+  same_list : (items : List I) (s : S) → P s → SameList after after_before reply reply_before home_load s items
   unfolding run_all
   same_list [] s ok = record { state = refl; answered = answered s; others = other s }
   same_list (x ∷ xs) s ok =
       let rest = same_list xs (after s x) (kept s x ok) in
       let same = left s x ok in
       record {
-        state = rest.state ∙ ap (λ (q : S). run_all afterBefore q xs) same;
-        answered = λ y a e. rest.answered y a (subst (λ (q : S). reply_before (run_all afterBefore q xs) y ≡ Ok a) (sym same) e);
-        others = λ y e. rest.others y e ∙ ap (λ (q : S). reply_before (run_all afterBefore q xs) y) same;
+        state = rest.state ∙ ap (λ (q : S). run_all after_before q xs) same;
+        answered = λ y a e. rest.answered y a (subst (λ (q : S). reply_before (run_all after_before q xs) y ≡ Ok a) (sym same) e);
+        others = λ y e. rest.others y e ∙ ap (λ (q : S). reply_before (run_all after_before q xs) y) same;
       }
 
 pub same_on_racks : SameOnRacks

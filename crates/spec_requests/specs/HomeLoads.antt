@@ -84,14 +84,14 @@ is_home_load_in (Err n) = false
 
 -- A list of items given to a state, by what one item leaves and what is replied to it, now and before; and an item x behind the list. As every item of a
 -- list stands behind a shorter one, this is said of each reply to a list.
-module _ {S I : Type 0} (after afterBefore : S → I → S) (reply reply_before : S → I → Reply) (homeLoad : I → Bool) where
+module _ {S I : Type 0} (after after_before : S → I → S) (reply reply_before : S → I → Reply) (home_load : I → Bool) where
   pub record SameList (s : S) (items : List I) : Type 0 where
     -- it leaves the same
-    pub state : run_all after s items ≡ run_all afterBefore s items
+    pub state : run_all after s items ≡ run_all after_before s items
     -- what was accepted before is accepted with the same answer: an answered load gives the same word
-    pub answered : (x : I) (a : Answer) → reply_before (run_all afterBefore s items) x ≡ Ok a → reply (run_all after s items) x ≡ Ok a
+    pub answered : (x : I) (a : Answer) → reply_before (run_all after_before s items) x ≡ Ok a → reply (run_all after s items) x ≡ Ok a
     -- and what is no load at home has the same reply, refused or not
-    pub others : (x : I) → homeLoad x ≡ false → reply (run_all after s items) x ≡ reply_before (run_all afterBefore s items) x
+    pub others : (x : I) → home_load x ≡ false → reply (run_all after s items) x ≡ reply_before (run_all after_before s items) x
 
 -- of every list of steps on every rack
 abbrev pub SameOnRacks : Type 0
