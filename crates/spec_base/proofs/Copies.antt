@@ -48,7 +48,7 @@ pub full_flag : Full flag (λ v. Unit {0})
 full_flag = record { fills = λ v o s t p q. one_set (toℕ v) s t p q }
 
 module _ (n : ℕ) where
-  alone : (v : ℕ) (s : List ℕ) → length s ≡ n → overwrite (digits n v) s ≡ digits n v
+  pub alone : (v : ℕ) (s : List ℕ) → length s ≡ n → overwrite (digits n v) s ≡ digits n v
   alone v s p =
       cover_room (digits n v) s (le_of_eq (length_digits n v ∙ sym p))
       ∙ ap (λ (r : List ℕ). digits n v ++ r) (drop_of_length-le s (le_of_eq (p ∙ sym (length_digits n v))))

@@ -1,18 +1,23 @@
 -- Numbers of two and of four bytes at an offset: what is read there, compared, and written byte by byte; by laws over any width.
-use Prim.Native.Nat.{ℕ, zero, suc, ◌+◌, ◌*◌, ◌/◌, ◌%◌, ◌^◌, ◌≤◌, ◌<◌}
-use native.Mathlib.Nat.{le_refl, zero-add, suc-add}
+use Prim.Native.Nat.{ℕ, zero, suc, ◌+◌, ◌-◌, ◌*◌, ◌/◌, ◌%◌, ◌^◌, ◌≤◌, ◌<◌}
+use native.Mathlib.Nat.{le_refl, zero-add, suc-add, pow-suc, mul_comm}
+use Rattle.std.proofs.Math.Nat.{div-div-eq-div-mul}
 use native.Mathlib.Numerals.{unary_clauses, one-add}
 use native.Mathlib.Omega.{arith}
-use mathlib.Core.Path.{◌≡◌, sym, ap, ◌∙◌}
-use mathlib.Core.List.{List, [], ◌∷◌}
+use mathlib.Core.Path.{◌≡◌, refl, sym, ap, ◌∙◌}
+use mathlib.Core.List.{List, [], ◌∷◌, ◌++◌}
 use lib.ListN.{length, get_or, set, take, drop, length-set, take-append-drop}
 use lib.Seq.{take-take}
+use borrow.Rule.Slice.PartMut.{put_mid, Post-is}
+use Rattle.std.specs.Int.{byte_at, bytes_high_first}
 use lib.Dec.{eqb}
 use borrow.Author.Tests.{eq-eqb, eqb-true}
-use Rattle.spec_base.specs.Number.{number}
+use Rattle.spec_base.specs.Number.{number, digits}
 use Rattle.spec_base.specs.Layout.{slice, modify_at, overwrite, big}
 use Rattle.spec_base.proofs.Tests.{same_test}
 use Rattle.spec_base.proofs.Numbers.{number_two, number_four}
+use Rattle.spec_base.proofs.Parts.{length_part}
+use Rattle.spec_base.proofs.Copies.{alone}
 
 -- ---- read
 
@@ -53,6 +58,23 @@ same_low_first a b c d p q r t ha hb hc hd hp hq hr ht =
     eq-eqb low low' (omega arith))
 
 -- ---- written
+
+-- the bytes of a number as the library has them, from the highest on, are its digits
+byte_next : (n v : ℕ) → byte_at (suc n) v ≡ byte_at n (v / 256)
+byte_next zero v = omega arith
+byte_next (suc n) v = ap (λ (k : ℕ). v / k % 256) (pow-suc 256 (suc n) ∙ mul_comm (256 ^ suc n) 256) ∙ ap (λ (q : ℕ). q % 256) (sym (div-div-eq-div-mul v 256 (256 ^ suc n)))
+
+high_first_next : (n v : ℕ) → bytes_high_first (suc n) v ≡ bytes_high_first n (v / 256) ++ (v % 256 ∷ [])
+high_first_next zero v = refl
+high_first_next (suc n) v = λ i. byte_next n v i ∷ high_first_next n v i
+
+high_first : (n v : ℕ) → bytes_high_first n v ≡ digits n v
+high_first zero v = refl
+high_first (suc n) v = high_first_next n v ∙ ap (λ (r : List ℕ). r ++ (v % 256 ∷ [])) (high_first n (v / 256))
+
+-- written over a part that was lent from p on
+pub big_written : (n p v : ℕ) (s bs : List ℕ) → p + n ≤ length s → bs ≡ bytes_high_first n v → put_mid p (p + n - p) s bs ≡ modify_at p n ((big n).write v) s
+big_written n p v s bs l e = λ i. take p s ++ ((e ∙ high_first n v ∙ sym (alone n v (slice p n s) (length_part p n s l))) i ++ Post-is p (p + n) s (omega arith) i)
 
 -- bytes laid over others, one after the other
 pub cover_first : (b : ℕ) (bs s : List ℕ) (p n : ℕ) → p < length s → modify_at p (suc n) (overwrite (b ∷ bs)) s ≡ modify_at (p + 1) n (overwrite bs) (set s p b)
