@@ -104,10 +104,9 @@ pub fn put_number(out: &mut [u8], number: u64)
     ensures { out.new ≡ digits (length out.old) number }
 {
     let mut rest = number;
-    let mut i = out.len();
-    while 0 < i {
-        i -= 1;
+    // By index: of bytes that are written through `iter_mut().rev()` the proof knows only how many there are.
+    for i in (0..out.len()).rev() {
         out[i] = (rest % 256) as u8;
-        rest = rest / 256;
+        rest /= 256;
     }
 }

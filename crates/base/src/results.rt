@@ -5,7 +5,7 @@ ghost use Rattle.spec_wire.specs.Results.{done, refused};
 
 use spec_wire::Refusal;
 
-// The refusal's number in the table.
+// The refusal's number in the table. No `From`: its `impl` would have to stand beside the type, in spec_wire, which has no code.
 pub fn number(refusal: Refusal) -> u64
     ensures { result ≡ number refusal }
 {
@@ -34,6 +34,7 @@ pub fn number(refusal: Refusal) -> u64
 }
 
 // The result of an exported entry that refuses.
+#[tactic(auto, using(spec_wire::proofs::RefusalTable::number_known))]
 pub fn pack_refused(refusal: Refusal) -> u64
     ensures { result ≡ refused refusal }
 {
@@ -44,5 +45,5 @@ pub fn pack_refused(refusal: Refusal) -> u64
 pub fn pack_done(count: u32) -> u64
     ensures { result ≡ done count }
 {
-    count as u64
+    u64::from(count)
 }

@@ -5,9 +5,14 @@ use native.Mathlib.Numerals.{add-one}
 use native.Mathlib.Omega.{arith}
 use mathlib.Core.Path.{◌≡◌, sym, ap, ◌∙◌}
 use mathlib.Core.List.{List, ◌++◌, append_assoc}
-use lib.ListN.{length, set, take, drop, replicate, length-replicate, get_or-replicate, replicate-append-replicate, length-drop}
+use lib.ListN.{length, get_or, set, take, drop, replicate, length-replicate, get_or-replicate, replicate-append-replicate, length-drop}
 use lib.Seq.{drop-drop, length-take-le, take_all, paste, paste-zero, paste-suc, length-paste}
+use lib.Dec.{eqb}
+use Rattle.std.specs.List.{between}
+use Rattle.std.proofs.lemmas.List.Edits.{get_or-between, length-between}
+use Rattle.spec_base.specs.Folds.{all_below}
 use Rattle.spec_base.specs.Layout.{Layout, slice, modify_at, write_items}
+use Rattle.spec_base.proofs.Folds.{below_same}
 use Rattle.spec_base.proofs.Parts.{over_over}
 use Rattle.spec_base.proofs.Copies.{Full}
 
@@ -36,6 +41,15 @@ module _ (s₀ : List ℕ) (at count : ℕ) where
     clear_all =
         append_assoc (take at s₀) (take count (replicate count 0)) (drop (at + count) s₀)
         ∙ ap (λ (r : List ℕ). take at s₀ ++ (r ++ drop (at + count) s₀)) (take_all count (replicate count 0) (le_of_eq (length-replicate count 0)))
+
+-- ---- bytes tested for 0, as code that is lent them alone has it
+
+pub zero_part : (at end n : ℕ) (s : List ℕ) → end ≡ at + n → end ≤ length s
+    → all_below (length (between at end s)) (λ i. eqb (get_or (between at end s) i 0) 0) ≡ all_below n (λ i. eqb (get_or s (at + i) 0) 0)
+zero_part at end n s e l =
+    let long : length (between at end s) ≡ n = omega (arith, length-between s at end l) in
+    ap (λ (k : ℕ). all_below k (λ i. eqb (get_or (between at end s) i 0) 0)) long
+    ∙ below_same (λ i. eqb (get_or (between at end s) i 0) 0) (λ i. eqb (get_or s (at + i) 0) 0) n (λ i h. ap (λ (x : ℕ). eqb x 0) (get_or-between s at end i 0 (omega arith)))
 
 -- ---- a change of a part that reaches only its first bytes
 
