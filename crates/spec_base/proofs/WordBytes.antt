@@ -6,7 +6,7 @@ use native.Mathlib.Numerals.{unary_clauses, one-add}
 use native.Mathlib.Omega.{arith}
 use mathlib.Core.Path.{◌≡◌, refl, sym, ap, ◌∙◌}
 use mathlib.Core.List.{List, [], ◌∷◌, ◌++◌}
-use lib.ListN.{length, get_or, set, take, drop, length-set, take-append-drop}
+use lib.ListN.{length, get_or, set, take, drop, take-append-drop}
 use lib.Seq.{take-take}
 use borrow.Rule.Slice.PartMut.{put_mid, Post-is}
 use Rattle.std.specs.Int.{byte_at, bytes_high_first}
@@ -86,35 +86,3 @@ cover_first b bs (x ∷ s) (suc p) n l = simp (unary_clauses, suc-add) (ap (λ (
 pub cover_none : (s : List ℕ) (p : ℕ) → modify_at p 0 (overwrite []) s ≡ s
 unfolding overwrite
 cover_none s p = simp unary_clauses (take-append-drop p s)
-
-pub write_two : (p v : ℕ) (s : List ℕ) → p + 2 ≤ length s → v < 65536 → set (set s p (v / 256)) (p + 1) (v % 256) ≡ modify_at p 2 ((big 2).write v) s
-write_two p v s l h =
-    let a : ℕ = v / 256 % 256 in
-    let b : ℕ = v % 256 in
-    let high : v / 256 ≡ a = omega arith in
-    sym
-    (cover_first a (b ∷ []) s p 1 (omega arith)
-    ∙ cover_first b [] (set s p a) (p + 1) 0 (simp length-set (omega arith))
-    ∙ cover_none (set (set s p a) (p + 1) b) (p + 1 + 1)
-    ∙ ap (λ (x : ℕ). set (set s p x) (p + 1) b) (sym high))
-
-pub write_four : (p v : ℕ) (s : List ℕ) → v < 2 ^ 32 → p + 4 ≤ length s
-    → set (set (set (set s p (v / 16777216)) (p + 1) (v / 65536 % 256)) (p + 2) (v / 256 % 256)) (p + 3) (v % 256) ≡ modify_at p 4 ((big 4).write v) s
-write_four p v s h l =
-    let a : ℕ = v / 256 / 256 / 256 % 256 in
-    let b : ℕ = v / 256 / 256 % 256 in
-    let c : ℕ = v / 256 % 256 in
-    let d : ℕ = v % 256 in
-    let p₂ : p + 1 + 1 ≡ p + 2 = omega arith in
-    let p₃ : p + 2 + 1 ≡ p + 3 = omega arith in
-    let high : v / 16777216 ≡ a = omega arith in
-    let next : v / 65536 % 256 ≡ b = omega arith in
-    sym
-    (cover_first a (b ∷ c ∷ d ∷ []) s p 3 (omega arith)
-    ∙ cover_first b (c ∷ d ∷ []) (set s p a) (p + 1) 2 (simp length-set (omega arith))
-    ∙ ap (λ (q : ℕ). modify_at q 2 (overwrite (c ∷ d ∷ [])) (set (set s p a) (p + 1) b)) p₂
-    ∙ cover_first c (d ∷ []) (set (set s p a) (p + 1) b) (p + 2) 1 (simp length-set (omega arith))
-    ∙ ap (λ (q : ℕ). modify_at q 1 (overwrite (d ∷ [])) (set (set (set s p a) (p + 1) b) (p + 2) c)) p₃
-    ∙ cover_first d [] (set (set (set s p a) (p + 1) b) (p + 2) c) (p + 3) 0 (simp length-set (omega arith))
-    ∙ cover_none (set (set (set (set s p a) (p + 1) b) (p + 2) c) (p + 3) d) (p + 3 + 1)
-    ∙ (λ i. set (set (set (set s p (sym high i)) (p + 1) (sym next i)) (p + 2) c) (p + 3) d))

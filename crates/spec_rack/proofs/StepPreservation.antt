@@ -8,7 +8,7 @@ use native.Mathlib.Omega.{arith}
 use borrow.Author.Tests.{ltb-false, leb-false, leb-true, eqb-false, not-false}
 use lib.ListN.{length, get_or, length-set}
 use lib.Dec.{eqb, leb, ltb}
-use Rattle.spec_base.proofs.Tests.{differs, and_l, and_r, or_l, or_r, and_not}
+use Rattle.spec_base.proofs.Tests.{and_l, and_r, or_l, or_r, and_not}
 use Rattle.spec_wire.specs.declared.Refusal.{Refusal}
 use Rattle.std.specs.Prelude.{Ok, Err}
 use Rattle.spec_wire.specs.Answers.{Check, no_refusal}
@@ -167,7 +167,7 @@ module _ (r : Rack) (s : Sound r) where
       let on = or_l _ _ known in
       moved (Send c b t p o d) _ _ _ _ refl refl
       (sent_keeps r s c b t p o d (in_n c b on) (in_b c b on) (ltb-false _ _ (or_r (off_rack r c b) _ known)) (eqb-false _ _ apart)
-      (some _ token) (ltb-false _ _ (or_l _ _ enough)) (and_not o _ (or_r (ltb (cell_at r b c).plain p) _ enough)) (search (not_bare, and_l, differs))
+      (some _ token) (ltb-false _ _ (or_l _ _ enough)) (and_not o _ (or_r (ltb (cell_at r b c).plain p) _ enough)) (search (not_bare, and_l))
       (and_not d _ stale) (room full))
   passed (Deliver i) =
       let past = guard (Goal (Deliver i)) in
