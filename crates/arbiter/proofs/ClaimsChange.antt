@@ -4,6 +4,7 @@ use mathlib.Core.Bool.{true}
 use mathlib.Core.List.{List, [], ◌∷◌, ◌++◌, map}
 use Prim.Native.Nat.{ℕ, suc, ◌+◌, ◌*◌, ◌≤◌, ◌<◌}
 use native.Mathlib.Nat.{le_of_eq}
+use native.Mathlib.Numerals.{add-one}
 use native.Mathlib.Omega.{arith}
 use lib.ListN.{length, set, take, drop, length-set}
 use Rattle.spec_base.proofs.Folds.{all_set}
@@ -142,16 +143,17 @@ module _ (n at : ℕ) (fits : n < board_room) (s₀ : List ℕ) (bytes : Bytes s
   lower_none =
       lowering 0 c₀ s₀ (ap (λ (l : Claims). waiting c₀ ∷ l) (map_first_none (λ (s : ℕ). remove s i) (drop 1 c₀)) ∙ cons_back n c₀ (length_claims n at s₀)) (stored_start n at fits s₀ bytes room form)
 
-  -- r is the set that is read, v the set that is written
-  pub lower_more : (k r v : ℕ) (s s' : List ℕ) → k < n → Lowering n at s₀ i k s → r ≡ (big 2).read (slice (at + 2 + 2 * k) 2 s) → v ≡ remove r i → v < 65536
-      → s' ≡ modify_at (at + 2 + 2 * k) 2 ((big 2).write v) s → Lowering n at s₀ i (k + 1) s'
-  lower_more k r v s s' l h er ev small es =
-      let there : at + 2 + 2 * k ≡ at + set_offset (suc k) = omega arith in
-      lowering (k + 1) (set (left k) (suc k) v) s'
+  -- the turn of board suc k, at the set of number j; r is the set that is read, v the set that is written
+  pub lower_more : (k m j r v : ℕ) (s s' : List ℕ) → m ≡ suc k → j ≡ suc k → k < n → Lowering n at s₀ i k s → r ≡ (big 2).read (slice (at + 2 * j) 2 s) → v ≡ remove r i → v < 65536
+      → s' ≡ modify_at (at + 2 * j) 2 ((big 2).write v) s → Lowering n at s₀ i m s'
+  lower_more k m j r v s s' next turn below h er ev small es =
+      let there : at + 2 * j ≡ at + set_offset (suc k) = omega arith in
+      rw (next, sym (add-one k))
+      (lowering (k + 1) (set (left k) (suc k) v) s'
       (sym (ap (λ (x : ℕ). set (left k) (suc k) x)
-      (ev ∙ ap (λ (x : ℕ). remove x i) (er ∙ ap (λ (p : ℕ). (big 2).read (slice p 2 s)) there ∙ stored_read n at fits s₀ bytes room form (left k) s h.stored (suc k) l))
+      (ev ∙ ap (λ (x : ℕ). remove x i) (er ∙ ap (λ (p : ℕ). (big 2).read (slice p 2 s)) there ∙ stored_read n at fits s₀ bytes room form (left k) s h.stored (suc k) below))
       ∙ ap (λ (m : Claims). waiting c₀ ∷ m) (map_first_more (λ (x : ℕ). remove x i) k (drop 1 c₀) empty (omega (arith, rest_length n c₀ (length_claims n at s₀))))))
-      (subst (Stored n at s₀ (set (left k) (suc k) v)) (sym (es ∙ ap (λ (p : ℕ). modify_at p 2 ((big 2).write v) s) there)) (stored_write n at fits s₀ bytes room form (left k) s h.stored (suc k) v l small))
+      (subst (Stored n at s₀ (set (left k) (suc k) v)) (sym (es ∙ ap (λ (p : ℕ). modify_at p 2 ((big 2).write v) s) there)) (stored_write n at fits s₀ bytes room form (left k) s h.stored (suc k) v below small)))
 
   -- w is the waiting set; r is what is written over it, and q over the board's own barring set
   pub lower_is : (w r q : ℕ) (s s₁ s₂ : List ℕ) → 1 ≤ i → i ≤ n → Lowering n at s₀ i n s → w ≡ (big 2).read (slice (at + waiting_offset) 2 s) → r ≡ remove w i → r < 65536 → q ≡ remove w i

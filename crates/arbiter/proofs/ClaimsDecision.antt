@@ -3,8 +3,7 @@
 use mathlib.Core.Path.{◌≡◌, refl, sym, ap, ◌∙◌}
 use mathlib.Core.Bool.{Bool, true, false, ◌&&◌}
 use mathlib.Core.List.{List}
-use Prim.Native.Nat.{ℕ, suc, ◌+◌, ◌*◌, ◌-◌, ◌^◌, ◌≤◌, ◌<◌}
-use native.Mathlib.Numerals.{add-one}
+use Prim.Native.Nat.{ℕ, zero, suc, ◌+◌, ◌*◌, ◌-◌, ◌^◌, ◌≤◌, ◌<◌}
 use native.Mathlib.Omega.{arith}
 use borrow.Author.Tests.{eq-eqb, eqb-true}
 use lib.Dec.{eqb}
@@ -54,40 +53,25 @@ barring_same n c i w small =
     none = implies (member (waiting c) i) (eqb (barring c i) empty)
 
 module _ (n : ℕ) (c : Claims) where
-  -- the barring sets of the first k boards are sound
-  unfoldable pub first_sound : ℕ → Bool
-  first_sound k = all_below k (λ i. sound_barring n c (suc i))
-
-  pub first_none : true ≡ first_sound 0
-  unfolding first_sound all_below
-  first_none = refl
-
-  -- one barring set more; s is that set, w the waiting set, t the test of s, and r what is known then
-  pub first_more : (k w s : ℕ) (ok t r : Bool) → boards_only n w ≡ true → s < 2 ^ board_room → w ≡ waiting c → s ≡ barring c (k + 1)
-      → ok ≡ first_sound k → t ≡ (subset s w && implies (member w (k + 1)) (eqb s empty)) → r ≡ (t && ok) → r ≡ first_sound (k + 1)
-  unfolding first_sound all_below
-  first_more k w s ok t r boards small ew es eo et er =
-      er
-      ∙ rw (et, eo, ew, es, add-one)
-      (ap (λ (x : Bool). x && all_below k (λ i. sound_barring n c (suc i)))
-      (barring_same n c (suc k) (rw ew at boards) (rw (es, add-one) at small)))
+  -- s is the barring set of board i as it was read, w the waiting set, and t the test of s
+  pub barring_test : (i w s : ℕ) (t : Bool) → boards_only n w ≡ true → s < 2 ^ board_room → w ≡ waiting c → s ≡ barring c i
+      → t ≡ (subset s w && implies (member w i) (eqb s empty)) → t ≡ sound_barring n c i
+  barring_test i w s t boards small ew es et = et ∙ rw (ew, es) (barring_same n c i (rw ew at boards) (rw es at small))
 
   -- a barring set that fails its test
-  pub first_fails : (k w s : ℕ) → k < n → boards_only n w ≡ true → s < 2 ^ board_room → w ≡ waiting c → s ≡ barring c (k + 1)
-      → (subset s w && implies (member w (k + 1)) (eqb s empty)) ≡ false → false ≡ sound_claims n c
+  pub sound_fails : (i : ℕ) → 1 ≤ i → i ≤ n → sound_barring n c i ≡ false → false ≡ sound_claims n c
   unfolding sound_claims
-  first_fails k w s l boards small ew es e =
-      sym
-      (and_right (eqb (length c) (suc n) && boards_only n (waiting c)) _
-      (below_fails (λ i. sound_barring n c (suc i)) n k l (sym (barring_same n c (suc k) (rw ew at boards) (rw (es, add-one) at small)) ∙ (rw (ew, es, add-one) at e))))
+  sound_fails zero low l e = absurd (omega arith)
+  sound_fails (suc k) low l e =
+      sym (and_right (eqb (length c) (suc n) && boards_only n (waiting c)) _ (below_fails (λ i. sound_barring n c (suc i)) n k (omega arith) e))
 
   pub sound_boards : boards_only n (waiting c) ≡ false → false ≡ sound_claims n c
   unfolding sound_claims
   sound_boards h = sym (and_left (eqb (length c) (suc n) && boards_only n (waiting c)) _ (and_right (eqb (length c) (suc n)) (boards_only n (waiting c)) h))
 
-  pub sound_all : length c ≡ suc n → boards_only n (waiting c) ≡ true → first_sound n ≡ sound_claims n c
-  unfolding sound_claims first_sound
-  sound_all l h = rw (h, eq-eqb (length c) (suc n) l)
+  pub sound_all : length c ≡ suc n → boards_only n (waiting c) ≡ true → ((i : ℕ) → i < n + 1 → 1 ≤ i → sound_barring n c i ≡ true) → true ≡ sound_claims n c
+  unfolding sound_claims
+  sound_all l h each = rw (h, eq-eqb (length c) (suc n) l) (sym (below_of (λ i. sound_barring n c (suc i)) n (λ i k. each (suc i) (omega arith) (omega arith))))
 
 -- where the bytes of the barring sets are all 0 the claims are of their form, no board is barred, and the waiting set decides
 module _ (n at : ℕ) (s : List ℕ) (fits : n < board_room) (room : at + claims_size ≤ length s) (h : all_below waiting_offset (λ i. eqb (get_or s (at + i) 0) 0) ≡ true) where

@@ -8,9 +8,10 @@ use native.Mathlib.Numerals.{one-add, add-one}
 use native.Mathlib.Omega.{arith}
 use borrow.Author.Tests.{eq-eqb, ne_eqb}
 use lib.Dec.{eqb}
-use lib.Bits.{bit_and, bit_or, and_shr, and_step, and_high, and_lt, or_add_and}
+use lib.Bits.{bit_and, bit_or, and_comm, and_shr, and_step, and_high, and_lt, or_add_and}
 use lib.Count.{ones, ones_cat, count_trailing_zeros, under}
-use lib.Pow.{pow_pos, pow-add, pow_mono, shl_exact, shr-shr, mod-pow-add}
+use lib.Pow.{pow_pos, pow-lt, pow-add, pow_mono, shl_exact, shr-shr, mod-pow-add}
+use Rattle.std.proofs.lemmas.Nat.{and-not}
 use Rattle.spec_base.specs.Folds.{toℕ, count_below}
 use Rattle.spec_base.proofs.Tests.{either, differs, same_test}
 use Rattle.spec_arbiter.specs.Boards.{board_room, bit, member, insert, remove, subset, boards_only, first_from, lowest, size}
@@ -44,6 +45,16 @@ pub insert_remove : (s i : ℕ) → insert s i - 2 ^ i ≡ remove s i
 insert_remove s i =
     ⊎_elim (λ h. ap (λ (x : ℕ). x - 2 ^ i) (insert_in s i h) ∙ sym (remove_in s i h))
     (λ h. omega (arith, insert_out s i h, remove_out s i h))
+    (either (member s i))
+
+-- `s & !(1 << i)`, at numbers of w bits
+pub and_not_remove : (w s i : ℕ) → i < w → s < 2 ^ w → bit_and s (2 ^ w - 1 - 2 ^ i) ≡ remove s i
+and_not_remove w s i l h =
+    let split : bit_and s (2 ^ w - 1 - 2 ^ i) + bit s i * 2 ^ i ≡ s =
+    ap₂ ◌+◌ (and_comm s (2 ^ w - 1 - 2 ^ i)) (sym (and_bit s i) ∙ and_comm s (2 ^ i)) ∙ and-not w (2 ^ i) s (pow-lt l) h in
+    ⊎_elim
+    (λ m. omega (arith, ap (λ (x : ℕ). x * 2 ^ i) (bit_in s i m), remove_in s i m))
+    (λ m. omega (arith, ap (λ (x : ℕ). x * 2 ^ i) (bit_out s i m), remove_out s i m))
     (either (member s i))
 
 bit_and_lem : (a b i : ℕ) → bit (bit_and a b) i ≡ min (bit a i) (bit b i)

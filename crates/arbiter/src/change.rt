@@ -24,19 +24,16 @@ pub fn lower_at(rec: &mut [u8], at: usize, boards: u8, board: u8)
     requires { (at + claims_size ≤ length rec.old) × (1 ≤ board) × (board ≤ boards) × (boards < 16) × ((claims boards).well_formed (slice at claims_size rec.old) ≡ true) }
     ensures { rec.new ≡ put_claims boards at (lowered (claims_at_offset boards at rec.old) board) rec.old }
 {
-    let count = boards as usize;
-    let mut i = 0;
-    while i < count {
-        let place = at + 2 + 2 * i;
+    for number in 1..=boards {
+        let place = at + 2 * usize::from(number);
         let s = u16_at(rec, place);
         let left = sets::remove(s, board);
         put_u16(rec, place, left);
-        i += 1;
     }
     let waiting = at + WAITING_OFFSET;
     let w = u16_at(rec, waiting);
     let others = sets::remove(w, board);
     put_u16(rec, waiting, others);
-    let own = at + 2 * (board as usize);
+    let own = at + 2 * usize::from(board);
     put_u16(rec, own, others);
 }

@@ -7,7 +7,7 @@ ghost use Rattle.spec_rack.specs.RecordLayout.{claims_at_offset, claims_size};
 use super::sets;
 use base::numbers::u16_at;
 use spec_rack::WAITING_OFFSET;
-use spec_wire::{Refusal};
+use spec_wire::Refusal;
 
 // The waiting set.
 pub fn waiting_at(rec: &[u8], at: usize) -> u16
@@ -34,7 +34,7 @@ pub fn raise_check(rec: &[u8], at: usize, board: u8) -> Result<(), Refusal>
     if waits {
         return Err(Refusal::Waiting);
     }
-    let own = u16_at(rec, at + 2 * (board as usize));
+    let own = u16_at(rec, at + 2 * usize::from(board));
     if own != 0 {
         return Err(Refusal::Barred);
     }

@@ -8,8 +8,8 @@ ghost use Rattle.spec_rack.specs.RecordLayout.{claims, claims_at_offset, claims_
 
 use super::claims::waiting_at;
 use super::sets;
+use base::all_zero;
 use base::numbers::u16_at;
-use base::{all_zero, both};
 use spec_rack::WAITING_OFFSET;
 
 // Whether a board's barring set lies within the waiting set, and is empty where the board waits. Most are empty: that is looked at first.
@@ -35,10 +35,8 @@ fn sets_sound(rec: &[u8], at: usize, boards: u8) -> bool
     if !sets::boards_only(boards, w) {
         return false;
     }
-    let mut board = 0;
-    while board < boards {
-        board += 1;
-        let s = u16_at(rec, at + 2 * (board as usize));
+    for board in 1..=boards {
+        let s = u16_at(rec, at + 2 * usize::from(board));
         if !barring_sound(w, board, s) {
             return false;
         }
@@ -51,9 +49,9 @@ fn unused_sets_zero(rec: &[u8], at: usize, boards: u8) -> bool
     requires { (at + claims_size ≤ length rec.now) × (boards < 16) }
     ensures { result ≡ (claims boards).well_formed (slice at claims_size rec.now) }
 {
-    let used = boards as usize * 2;
+    let used = usize::from(boards) * 2;
     let behind = at + 2 + used;
-    both(all_zero(rec, at, 2), all_zero(rec, behind, 30 - used))
+    all_zero(rec, at, 2) & all_zero(rec, behind, 30 - used)
 }
 
 // Whether a board is barred: a byte of the barring sets is not 0.
@@ -77,8 +75,5 @@ pub fn sound_at(rec: &[u8], at: usize, boards: u8) -> bool
     requires { (at + claims_size ≤ length rec.now) × (boards < 16) }
     ensures { result ≡ ((claims boards).well_formed (slice at claims_size rec.now) && sound_claims boards (claims_at_offset boards at rec.now)) }
 {
-    both(
-        unused_sets_zero(rec, at, boards),
-        sets_sound(rec, at, boards),
-    )
+    unused_sets_zero(rec, at, boards) & sets_sound(rec, at, boards)
 }

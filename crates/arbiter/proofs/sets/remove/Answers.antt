@@ -1,10 +1,10 @@
--- `arbiter::sets::remove` meets its contract: the bit is set and then taken off.
-use native.Mathlib.Omega.{arith}
-use Rattle.arbiter.proofs.SetBits.{shl_one, shl_insert, insert_above, insert_remove}
+-- `arbiter::sets::remove` meets its contract: what is left of the set where all bits but one are kept.
+use mathlib.Core.Path.{ap, ◌∙◌}
+use Prim.Native.Nat.{ℕ, ◌-◌}
+use lib.Bits.{bit_and}
+use Rattle.arbiter.proofs.SetBits.{shl_one, and_not_remove}
+use borrow.Author.Rules.{rules}
 use Rattle.arbiter.proofs.sets.remove.Goals as goal
 
-pub overflow_sub-result : goal.overflow_sub-result
-overflow_sub-result c = omega (arith, shl_one c.args.i c.requires, shl_insert c.args.s c.args.i c.requires, insert_above c.args.s c.args.i)
-
 pub returns : goal.returns
-returns c = omega (arith, shl_one c.args.i c.requires, shl_insert c.args.s c.args.i c.requires, insert_remove c.args.s c.args.i)
+returns c = ap (λ (b : ℕ). bit_and c.args.s (65535 - b)) (shl_one c.args.i c.requires) ∙ and_not_remove 16 c.args.s c.args.i c.requires (search rules)

@@ -5,5 +5,6 @@ use Rattle.arbiter.proofs.SetBytes.{claims_formed}
 use Rattle.arbiter.proofs.sound.unused_sets_zero.Goals as goal
 
 pub returns : goal.returns
-returns c = c.both.ensures ∙ (λ i. c.all_zero.ensures i && c.all_zero-2.ensures i)
-    ∙ sym (claims_formed c.args.boards c.args.at c.args.rec.now c.requires.1)
+returns c =
+    let above = rw c.from-used.ensures at c.all_zero-2.ensures in
+    (λ i. c.all_zero.ensures i && above i) ∙ sym (claims_formed c.args.boards c.args.at c.args.rec.now c.requires.1)
