@@ -1,5 +1,7 @@
 // The claims on a block, in the bytes of a lent record from `at` on: sixteen sets of two bytes, the high byte first, then the waiting set.
 // Set i is the barring set of board i; a set without a board is 0.
+// A struct of `rec` and `at`, with the bound as a ghost field, is no plainer: a contract then says `claims_at_offset n self.entry.at self.entry.rec.now`, the
+// changes on a `&mut` need a second struct, and each caller makes one for a single call. An array of the 34 bytes adds a step to each caller's proof.
 ghost use Rattle.std.specs.Prelude.{◌≡◌, ℕ, ◌+◌, ◌≤◌, ◌<◌, length};
 ghost use Rattle.spec_arbiter.specs.Claims.{waiting, active, raise_check, lower_check};
 ghost use Rattle.spec_rack.specs.RecordLayout.{claims_at_offset, claims_size};
