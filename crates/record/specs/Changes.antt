@@ -1,8 +1,10 @@
 -- Document 01, "Steps": the changes of single figures that the steps are made of.
-use Rattle.std.specs.Prelude.{ℕ, ◌≡◌, List}
+use Rattle.std.specs.Prelude.{ℕ, ◌+◌, ◌*◌, ◌≡◌, List, set}
+use Rattle.spec_base.specs.Folds.{toℕ}
 use Rattle.spec_rack.specs.declared.Message.{Message}
 use Rattle.spec_rack.specs.Rack.{Cell, Rack}
 use Rattle.spec_rack.specs.Rules.{with_cell}
+use Rattle.spec_rack.specs.RecordLayout.{Tokens, from_tokens}
 use Rattle.record.specs.declared.TokenState.{TokenState}
 
 -- a cell's plain count, owner and valid mark, as the code has them
@@ -25,3 +27,9 @@ replace_cell r b c x = with_cell r b c x r.mesh
 -- a rack with another mesh
 abbrev pub with_mesh : Rack → List Message → Rack
 with_mesh r ms = record { boards = r.boards; tokens = r.tokens; blocks = r.blocks; mesh = ms }
+
+-- tokens in four bytes, the first at a place and each so far behind the one before: 1 in a message, lane_size in a block
+abbrev pub set_tokens : ℕ → ℕ → Tokens → List ℕ → List ℕ
+set_tokens apart at v s =
+    let bytes = from_tokens v in
+    set (set (set (set s at bytes.0) (at + apart) (toℕ bytes.1.0)) (at + 2 * apart) (toℕ bytes.1.1.0)) (at + 3 * apart) (toℕ bytes.1.1.1)

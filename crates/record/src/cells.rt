@@ -7,22 +7,27 @@ ghost use Rattle.record.specs.Needs.{CellInRecord};
 ghost use Rattle.record.specs.Changes.{TokenStateOf, with_token_state, replace_cell};
 
 use super::{TokenState, owner, tokens, words};
-use base::byte_at;
 use base::numbers::{put_u32, u32_at};
-use spec_rack::{BLOCK_SIZE, BLOCKS_OFFSET, DIRTY_OFFSET, OWNER_OFFSET, VALID_OFFSET, WORDS_OFFSET, WORDS_SIZE};
+use spec_rack::{
+    BLOCK_SIZE, BLOCKS_OFFSET, DIRTY_OFFSET, LANE_SIZE, OWNER_OFFSET, VALID_OFFSET, WORDS_OFFSET,
+    WORDS_SIZE,
+};
 
 // The offset of a component's plain count in a block.
 pub fn plain_offset(block: u8, component: u8) -> usize
     ensures { result ≡ block_offset block + component }
 {
-    BLOCKS_OFFSET + BLOCK_SIZE * (block as usize) + component as usize
+    BLOCKS_OFFSET + BLOCK_SIZE * usize::from(block) + usize::from(component)
 }
 
 // The offset of a component's words in a block.
 pub fn words_offset(block: u8, component: u8) -> usize
     ensures { result ≡ cell_words_offset block component }
 {
-    BLOCKS_OFFSET + BLOCK_SIZE * (block as usize) + WORDS_OFFSET + WORDS_SIZE * (component as usize)
+    BLOCKS_OFFSET
+        + BLOCK_SIZE * usize::from(block)
+        + WORDS_OFFSET
+        + WORDS_SIZE * usize::from(component)
 }
 
 // The token state of a cell.
@@ -32,12 +37,9 @@ pub fn token_state(rec: &[u8], block: u8, component: u8) -> TokenState
 {
     let at = plain_offset(block, component);
     TokenState {
-        plain: byte_at(rec, at, 0),
-        owner: owner::owner_of(
-            byte_at(rec, at, OWNER_OFFSET) == 1,
-            byte_at(rec, at, DIRTY_OFFSET) == 1,
-        ),
-        valid: byte_at(rec, at, VALID_OFFSET) == 1,
+        plain: rec[at],
+        owner: owner::owner_of(rec[at + OWNER_OFFSET] == 1, rec[at + DIRTY_OFFSET] == 1),
+        valid: rec[at + VALID_OFFSET] == 1,
     }
 }
 
@@ -47,7 +49,7 @@ pub fn set_token_state(rec: &mut [u8], block: u8, component: u8, state: TokenSta
     ensures { rec.new ≡ put (replace_cell (get rec.old) block component (with_token_state (cell_at (get rec.old) block component) state)) rec.old }
 {
     let at = plain_offset(block, component);
-    tokens::put_lanes(rec, at, state);
+    tokens::put_tokens::<LANE_SIZE>(rec, at, state);
 }
 
 // A word of a cell.
@@ -56,7 +58,7 @@ pub fn word(rec: &[u8], block: u8, component: u8, index: u8) -> u32
     ensures { result ≡ get_or (cell_at (get rec.now) block component).words index 0 }
 {
     let at = words_offset(block, component);
-    u32_at(rec, at + 4 * (index as usize))
+    u32_at(rec, at + 4 * usize::from(index))
 }
 
 // Writes a word of a cell that has the owner, and marks the owner dirty.
@@ -66,7 +68,7 @@ pub fn set_word(rec: &mut [u8], block: u8, component: u8, index: u8, value: u32)
 {
     let plain = plain_offset(block, component);
     let at = words_offset(block, component);
-    let place = at + 4 * (index as usize);
+    let place = at + 4 * usize::from(index);
     put_u32(rec, place, value);
     rec[plain + DIRTY_OFFSET] = 1;
 }

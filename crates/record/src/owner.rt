@@ -9,41 +9,27 @@ use spec_rack::Owner;
 pub fn owner_of(here: bool, dirty: bool) -> Owner
     ensures { result ≡ owner_of here dirty }
 {
-    if here {
-        if dirty {
-            return Owner::Dirty;
-        }
-        return Owner::Clean;
+    match (here, dirty) {
+        (true, true) => Owner::Dirty,
+        (true, false) => Owner::Clean,
+        (false, _) => Owner::Away,
     }
-    Owner::Away
 }
 
 pub fn is_present(owner: Owner) -> bool
     ensures { result ≡ present owner }
 {
-    match owner {
-        Owner::Away => false,
-        Owner::Clean => true,
-        Owner::Dirty => true,
-    }
+    matches!(owner, Owner::Clean | Owner::Dirty)
 }
 
 pub fn is_dirty(owner: Owner) -> bool
     ensures { result ≡ dirty owner }
 {
-    match owner {
-        Owner::Away => false,
-        Owner::Clean => false,
-        Owner::Dirty => true,
-    }
+    matches!(owner, Owner::Dirty)
 }
 
 pub fn is_clean(owner: Owner) -> bool
     ensures { result ≡ clean owner }
 {
-    match owner {
-        Owner::Away => false,
-        Owner::Clean => true,
-        Owner::Dirty => false,
-    }
+    matches!(owner, Owner::Clean)
 }

@@ -4,19 +4,14 @@ ghost use Rattle.spec_base.specs.Layout.{slice, modify_at};
 ghost use Rattle.spec_rack.specs.RecordLayout.{words, words_size};
 
 use base::numbers::{put_u32, u32_at};
+use std::array;
 
 // The eight words at `at`.
 pub fn words_at(s: &[u8], at: usize) -> [u32; 8]
     requires { at + words_size ≤ length s.now }
     ensures { result ≡ words.read (slice at words_size s.now) }
 {
-    let mut out = [0u32; 8];
-    let mut i: usize = 0;
-    while i < 8 {
-        out[i] = u32_at(s, at + 4 * i);
-        i += 1;
-    }
-    out
+    array::from_fn(|i| u32_at(s, at + 4 * i))
 }
 
 // Writes eight words at `at`.
@@ -24,11 +19,7 @@ pub fn put_words(s: &mut [u8], at: usize, values: [u32; 8])
     requires { at + words_size ≤ length s.old }
     ensures { s.new ≡ modify_at at words_size (words.write values) s.old }
 {
-    let mut i: usize = 0;
-    while i < 8 {
-        let place = at + 4 * i;
-        let value = values[i];
-        put_u32(s, place, value);
-        i += 1;
+    for (i, value) in values.iter().enumerate() {
+        put_u32(s, at + 4 * i, *value);
     }
 }

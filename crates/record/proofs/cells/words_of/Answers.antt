@@ -5,5 +5,5 @@ use Rattle.record.proofs.cells.words_of.Goals as goal
 
 pub returns : goal.returns
 returns c = c.words_at.ensures
-    ∙ words_is c.args.rec.now (λ k. (c.shared_slice_known-1.given k).fits) c.args.block c.args.component c.requires
+    ∙ words_is c.args.rec.now (λ k. (c.type_inv.rec k).fits) c.args.block c.args.component c.requires
     c.words_offset-at.result c.words_offset-at.ensures
