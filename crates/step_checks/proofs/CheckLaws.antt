@@ -2,7 +2,7 @@
 -- knows at its return: of every call its result's figure of the rack, of every branch the way that it went.
 use Prim.Native.Nat.{ℕ, ◌+◌, ◌≤◌, ◌<◌}
 use native.Mathlib.Omega.{arith}
-use mathlib.Core.Path.{◌≡◌, refl, sym, ap, ◌∙◌}
+use mathlib.Core.Path.{◌≡◌, refl, sym, ◌∙◌}
 use mathlib.Core.Bool.{Bool, true, false, not, ◌||◌}
 use lib.Dec.{eqb, ltb}
 use lib.ListN.{length}
@@ -10,16 +10,14 @@ use borrow.Author.Tests.{not-true, not-false}
 use Rattle.spec_wire.specs.declared.Refusal.TheVariants.{OffRack, Home, NoToken, NoData, Short, NoMessage}
 use Rattle.std.specs.Prelude.{Err}
 use Rattle.spec_wire.specs.Answers.{Check, no_refusal}
-use Rattle.spec_wire.specs.Refusals.{when◌refuse◌else◌}
-use Rattle.spec_wire.proofs.RefusalTable.{table}
+use Rattle.spec_wire.proofs.RefusalTable.{table, past}
 use Rattle.spec_wire.specs.declared.Step.TheVariants.{Load, Store, Send, Deliver, Raise, Lower, Forward}
 use Rattle.spec_arbiter.specs.Claims.{raise_check, lower_check}
 use Rattle.spec_rack.specs.Rack.{Cell, Rack, owners, claims_at, cell_at, held}
 use Rattle.spec_rack.specs.Rules.{check, off_rack}
 use Rattle.record.specs.declared.TokenState.{TokenState}
 use Rattle.record.specs.Changes.{TokenStateOf}
-use Rattle.spec_base.proofs.Tests.{differs}
-use Rattle.step_checks.specs.Checked.{is_pass, board_lines}
+use Rattle.step_checks.specs.Checked.{board_lines}
 
 -- the token state has the count of tokens that the cell holds
 pub held_is : {x : Cell} {m : TokenState} {h : ℕ} → TokenStateOf x m → h ≡ m.plain + owners m.owner → h ≡ held x
@@ -107,35 +105,19 @@ pub lower_lines : (r : Rack) (c b : ℕ) → board_lines r c b (lower_check (cla
 unfolding check board_lines
 lower_lines r c b = refl
 
--- their verdict: where it refuses, the whole table does, and where it passes, the rest of the table is the verdict
-module _ (r : Rack) (c b : ℕ) {k : Check} {p : Bool} (is : k ≡ board_lines r c b no_refusal) (p-is : p ≡ is_pass k) where
-  pub board_refused : (rest : Check) → not p ≡ true → k ≡ board_lines r c b rest
-  unfolding board_lines when◌refuse◌else◌
-  board_refused rest refused = by_tests (off_rack r c b) (eqb c 0) is
-    where
-      by_tests : (off home : Bool) → k ≡ (when off refuse OffRack else when home refuse Home else no_refusal) → k ≡ (when off refuse OffRack else when home refuse Home else rest)
-      by_tests true home e = e
-      by_tests false true e = e
-      by_tests false false e = differs (sym (ap is_pass e) ∙ sym p-is ∙ not-true p refused)
+-- and what they tell where both pass: the rest of the table is the verdict
+module _ (r : Rack) (c b : ℕ) (passes : no_refusal ≡ board_lines r c b no_refusal) where
+  pub board_on : off_rack r c b ≡ false
+  unfolding board_lines
+  board_on = (past _ _ _ (sym passes)).0
 
-  module _ (passed : not p ≡ false) where
-    both_fail : (off home : Bool) → k ≡ (when off refuse OffRack else when home refuse Home else no_refusal) → (off ≡ false) × (home ≡ false)
-    unfolding when◌refuse◌else◌
-    both_fail true home e = differs (sym (not-false p passed) ∙ p-is ∙ ap is_pass e)
-    both_fail false true e = differs (sym (not-false p passed) ∙ p-is ∙ ap is_pass e)
-    both_fail false false e = (refl, refl)
+  pub board_away : eqb c 0 ≡ false
+  unfolding board_lines
+  board_away = (past _ _ _ (past _ _ _ (sym passes)).1).0
 
-    pub board_on : off_rack r c b ≡ false
-    unfolding board_lines
-    board_on = (both_fail (off_rack r c b) (eqb c 0) is).0
-
-    pub board_away : eqb c 0 ≡ false
-    unfolding board_lines
-    board_away = (both_fail (off_rack r c b) (eqb c 0) is).1
-
-    pub board_rest : {y rest : Check} → y ≡ rest → y ≡ board_lines r c b rest
-    unfolding board_lines
-    board_rest e = search (table, board_on, board_away, e) depth 10
+  pub board_rest : {y rest : Check} → y ≡ rest → y ≡ board_lines r c b rest
+  unfolding board_lines
+  board_rest e = search (table, board_on, board_away, e) depth 10
 
 -- ---- deliver
 

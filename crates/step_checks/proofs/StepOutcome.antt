@@ -5,6 +5,7 @@ use mathlib.Core.List.{List}
 use Prim.Native.Nat.{ℕ}
 use Rattle.spec_wire.specs.declared.Refusal.{Refusal}
 use Rattle.std.specs.Prelude.{Ok, Err}
+use Rattle.std.specs.Result.{IsErrAnd}
 use Rattle.spec_rack.specs.Replies.{Reply}
 use Rattle.spec_wire.specs.Answers.{Check, no_refusal}
 use Rattle.spec_wire.specs.declared.Step.{Step}
@@ -33,6 +34,16 @@ module _ (s : List ℕ) (t : Step) where
   pub written_is : (s₁ : List ℕ) → check (get s) t ≡ no_refusal → s₁ ≡ put (after (get s) t) s → s₁ ≡ buffer_after s t
   unfolding rules
   written_is s₁ e h = rw e h
+
+  -- a step written with `?`: where the check refuses, its refusal is returned and nothing is written
+  pub refuses : {n : Refusal} {r : Reply} → Err n ≡ check (get s) t → IsErrAnd r (λ m. m ≡ n) → r ≡ reply_to_step s t
+  unfolding rules
+  refuses {r = Ok _} e h = absurd h
+  refuses {r = Err m} e h = ap Err h ∙ refused_is e
+
+  pub leaves : {n : Refusal} → Err n ≡ check (get s) t → s ≡ buffer_after s t
+  unfolding rules
+  leaves e = rw (sym e)
 
   -- a verdict that passes
   pub passes : (k : Check) {p : Bool} → k ≡ check (get s) t → p ≡ is_pass k → p ≡ true → check (get s) t ≡ no_refusal

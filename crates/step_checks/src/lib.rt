@@ -12,8 +12,11 @@ ghost use Rattle.spec_rack.specs.RecordLayout.{block_offset, claims_offset, get,
 ghost use Rattle.record.specs.Needs.{InLayout};
 ghost use Rattle.step_checks.specs.Checked.{is_pass, board_lines};
 
-use spec_rack::{Answer, BLOCK_COUNT_OFFSET, BLOCK_SIZE, BLOCKS_OFFSET, BOARD_COUNT_OFFSET, CLAIMS_OFFSET, MESH_LIMIT, MESSAGE_COUNT_OFFSET};
-use spec_wire::{Refusal};
+use spec_rack::{
+    Answer, BLOCK_COUNT_OFFSET, BLOCK_SIZE, BLOCKS_OFFSET, BOARD_COUNT_OFFSET, CLAIMS_OFFSET,
+    MESH_LIMIT, MESSAGE_COUNT_OFFSET,
+};
+use spec_wire::Refusal;
 
 // Whether the component is above N or the block not below B.
 pub fn off_rack(rec: &[u8], component: u8, block: u8) -> bool
@@ -55,7 +58,7 @@ pub fn board_check(rec: &[u8], component: u8, block: u8) -> Result<(), Refusal>
     if at_home(component) {
         return Err(Refusal::Home);
     }
-    Check::no_refusal
+    Ok(())
 }
 
 // The offset of a block's claims.
@@ -103,7 +106,7 @@ pub fn is_pass(verdict: Result<(), Refusal>) -> bool
     ensures { result ≡ is_pass verdict }
 {
     match verdict {
-        Check::no_refusal => true,
+        Ok(()) => true,
         Err(_) => false,
     }
 }
@@ -113,7 +116,7 @@ pub fn reply_of(verdict: Result<(), Refusal>) -> Result<Answer, Refusal>
     ensures { result ≡ reply_of verdict }
 {
     match verdict {
-        Check::no_refusal => Ok(Answer::Done),
+        Ok(()) => Ok(Answer::Done),
         Err(refusal) => Err(refusal),
     }
 }
