@@ -1,75 +1,30 @@
--- The verdict on each kind of step, return by return. A run down the table stops at the first test that passes; each law takes what the code
--- knows at its return: of every call its result's figure of the rack, of every branch the way that it went.
+-- A run down the table stops at the first test that passes: `lines` closes a return where the tests on the way are tests of the code. Where a test is
+-- another function's, its law takes that function's result, and the way that the branch on it went.
 use Prim.Native.Nat.{ℕ, ◌+◌, ◌≤◌, ◌<◌}
 use native.Mathlib.Omega.{arith}
 use mathlib.Core.Path.{◌≡◌, refl, sym, ◌∙◌}
-use mathlib.Core.Bool.{Bool, true, false, not, ◌||◌}
-use lib.Dec.{eqb, ltb}
+use mathlib.Core.Bool.{Bool, true, false}
+use lib.Dec.{eqb}
 use lib.ListN.{length}
-use borrow.Author.Tests.{not-true, not-false}
-use Rattle.spec_wire.specs.declared.Refusal.TheVariants.{OffRack, Home, NoToken, NoData, Short, NoMessage}
+use Rattle.spec_wire.specs.declared.Refusal.TheVariants.{OffRack, NoMessage}
 use Rattle.std.specs.Prelude.{Err}
 use Rattle.spec_wire.specs.Answers.{Check, no_refusal}
-use Rattle.spec_wire.proofs.RefusalTable.{table, past}
-use Rattle.spec_wire.specs.declared.Step.TheVariants.{Load, Store, Send, Deliver, Raise, Lower, Forward}
+use Rattle.spec_wire.proofs.RefusalTable.{table, past, stops, goes}
+use Rattle.spec_wire.specs.declared.Step.TheVariants.{Send, Deliver, Raise, Lower, Forward}
 use Rattle.spec_arbiter.specs.Claims.{raise_check, lower_check}
-use Rattle.spec_rack.specs.Rack.{Cell, Rack, owners, claims_at, cell_at, held}
+use Rattle.spec_rack.specs.Rack.{Cell, Rack, owners, claims_at, held}
 use Rattle.spec_rack.specs.Rules.{check, off_rack}
 use Rattle.record.specs.declared.TokenState.{TokenState}
 use Rattle.record.specs.Changes.{TokenStateOf}
 use Rattle.step_checks.specs.Checked.{board_lines}
 
+pub ruleset lines = (stops, goes)
+
 -- the token state has the count of tokens that the cell holds
 pub held_is : {x : Cell} {m : TokenState} {h : ℕ} → TokenStateOf x m → h ≡ m.plain + owners m.owner → h ≡ held x
 held_is state tokens = tokens ∙ (λ i. state.plain i + owners (state.owner i))
 
--- ---- load and store
-
-module _ (r : Rack) (c b w : ℕ) {off : Bool} (off-is : off ≡ (off_rack r c b || ltb 7 w)) where
-  module _ (off-rack : off ≡ true) where
-    pub load_off_rack : Err OffRack ≡ check r (Load c b w)
-    unfolding check
-    load_off_rack = search (table, sym off-is ∙ off-rack) depth 10
-
-    pub store_off_rack : (v : ℕ) → Err OffRack ≡ check r (Store c b w v)
-    unfolding check
-    store_off_rack v = search (table, sym off-is ∙ off-rack) depth 10
-
-  module _ (on_rack : off ≡ false) where
-    module _ {m : TokenState} (state : TokenStateOf (cell_at r b c) m) {h : ℕ} (tokens : h ≡ m.plain + owners m.owner) where
-      pub load_no_token : h ≡ 0 → Err NoToken ≡ check r (Load c b w)
-      unfolding check
-      load_no_token none = let none : held (cell_at r b c) ≡ 0 = sym (held_is state tokens) ∙ none in search (table, sym off-is ∙ on_rack) depth 10
-
-      pub load_no_data : (h ≡ 0 → ⊥) → not m.valid ≡ true → Err NoData ≡ check r (Load c b w)
-      unfolding check
-      load_no_data some stale =
-          let some : held (cell_at r b c) ≡ 0 → ⊥ = λ e. some (held_is state tokens ∙ e) in
-          let stale : (cell_at r b c).valid ≡ false = sym state.valid ∙ not-true _ stale in
-          search (table, sym off-is ∙ on_rack) depth 10
-
-      pub load_pass : (h ≡ 0 → ⊥) → not m.valid ≡ false → no_refusal ≡ check r (Load c b w)
-      unfolding check
-      load_pass some valid =
-          let some : held (cell_at r b c) ≡ 0 → ⊥ = λ e. some (held_is state tokens ∙ e) in
-          let valid : (cell_at r b c).valid ≡ true = sym state.valid ∙ not-false _ valid in
-          search (table, sym off-is ∙ on_rack) depth 10
-
-    module _ (v : ℕ) {home : Bool} (home-is : home ≡ eqb c 0) where
-      pub store_home : home ≡ true → Err Home ≡ check r (Store c b w v)
-      unfolding check
-      store_home at_home = search (table, sym off-is ∙ on_rack, sym home-is ∙ at_home) depth 10
-
-      module _ (away : home ≡ false) {m : TokenState} (state : TokenStateOf (cell_at r b c) m) {h : ℕ} (tokens : h ≡ m.plain + owners m.owner) {t : ℕ} (all : r.tokens ≡ t) where
-        pub store_short : h < t → Err Short ≡ check r (Store c b w v)
-        unfolding check
-        store_short short = let short : held (cell_at r b c) < r.tokens = omega (arith, held_is state tokens) in search (table, sym off-is ∙ on_rack, sym home-is ∙ away) depth 10
-
-        pub store_pass : t ≤ h → no_refusal ≡ check r (Store c b w v)
-        unfolding check
-        store_pass has = let has : r.tokens ≤ held (cell_at r b c) = omega (arith, held_is state tokens) in search (table, sym off-is ∙ on_rack, sym home-is ∙ away) depth 10
-
--- ---- raise and lower; send and forward off the rack
+-- ---- send and forward off the rack
 
 module _ (r : Rack) (c b : ℕ) {off : Bool} (off-is : off ≡ off_rack r c b) where
   module _ (off-rack : off ≡ true) where
@@ -81,21 +36,7 @@ module _ (r : Rack) (c b : ℕ) {off : Bool} (off-is : off ≡ off_rack r c b) w
     unfolding check
     forward_off_rack = search (table, sym off-is ∙ off-rack) depth 10
 
--- ---- the two lines that a raise and a lower begin with
-
-module _ (r : Rack) (c b : ℕ) {off : Bool} (off-is : off ≡ off_rack r c b) where
-  pub board_off_rack : off ≡ true → Err OffRack ≡ board_lines r c b no_refusal
-  unfolding board_lines
-  board_off_rack off-rack = search (table, sym off-is ∙ off-rack) depth 10
-
-  module _ (on_rack : off ≡ false) {home : Bool} (home-is : home ≡ eqb c 0) where
-    pub board_home : home ≡ true → Err Home ≡ board_lines r c b no_refusal
-    unfolding board_lines
-    board_home at_home = search (table, sym off-is ∙ on_rack, sym home-is ∙ at_home) depth 10
-
-    pub board_pass : home ≡ false → no_refusal ≡ board_lines r c b no_refusal
-    unfolding board_lines
-    board_pass away = search (table, sym off-is ∙ on_rack, sym home-is ∙ away) depth 10
+-- ---- the two lines that a raise and a lower begin with, and the rest of their table
 
 pub raise_lines : (r : Rack) (c b : ℕ) → board_lines r c b (raise_check (claims_at r b) c) ≡ check r (Raise c b)
 unfolding check board_lines

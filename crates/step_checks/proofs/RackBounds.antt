@@ -2,62 +2,36 @@
 use Prim.Native.Nat.{ℕ, ◌+◌, ◌≤◌, ◌<◌}
 use native.Mathlib.Omega.{arith}
 use mathlib.Core.Path.{◌≡◌, refl, sym, ap, ◌∙◌}
-use mathlib.Core.Logic.{⊎_elim}
-use mathlib.Core.Bool.{Bool, true, false, ◌||◌}
+use mathlib.Core.Bool.{Bool, false, ◌||◌}
 use mathlib.Core.List.{List}
-use lib.Dec.{eqb, leb, ltb}
+use lib.Dec.{eqb, ltb}
 use lib.ListN.{length}
-use borrow.Author.Tests.{eq-eqb, lt-ltb, le-ltb, ltb-false, leb-false, leb-true}
-use Rattle.spec_base.proofs.Tests.{differs, lt_or_le, and_l, and_r, or_l, or_r, or_left}
+use borrow.Author.Tests.{leb-true}
+use Rattle.spec_base.proofs.Tests.{and_l, and_r, or_l}
 use Rattle.spec_base.specs.Number.{Bytes}
 use Rattle.spec_base.specs.Layout.{slice}
 use Rattle.spec_wire.specs.Answers.{Check}
 use Rattle.spec_arbiter.specs.Claims.{Claims}
-use Rattle.spec_rack.specs.RecordLayout.{claims, block_offset, claims_offset, get, blocks_in, boards_in, claims_size, messages_in}
-use Rattle.spec_rack.specs.Rack.{mesh_limit, claims_at}
-use Rattle.spec_rack.specs.Rules.{off_rack, mesh_full}
+use Rattle.spec_rack.specs.RecordLayout.{claims, block_offset, claims_offset, get, blocks_in, boards_in, claims_size}
+use Rattle.spec_rack.specs.Rack.{claims_at}
+use Rattle.spec_rack.specs.Rules.{off_rack}
 use Rattle.record.specs.Needs.{InLayout, CellInRecord, SoundRecord}
-use Rattle.spec_rack.proofs.GetPut.{boards_is, blocks_is, mesh_is}
+use Rattle.spec_rack.proofs.GetPut.{boards_is, blocks_is}
 use Rattle.spec_rack.proofs.SoundRecord.{rack_sound}
 use Rattle.step_checks.proofs.ClaimsInRecord.{claims_room_lem, claims_read}
-
--- ---- the tests that the code makes on the bytes
-
-off_rack_is : (s : List ℕ) (c b : ℕ) → (ltb (boards_in s) c || leb (blocks_in s) b) ≡ off_rack (get s) c b
-off_rack_is s c b = λ i. ltb (sym (boards_is s) i) c || leb (sym (blocks_is s) i) b
-
-pub component_off : (s : List ℕ) (c b : ℕ) → boards_in s < c → true ≡ off_rack (get s) c b
-component_off s c b l = sym (or_left (ltb (boards_in s) c) (leb (blocks_in s) b) (lt-ltb (boards_in s) c l)) ∙ off_rack_is s c b
-
-pub block_test : (s : List ℕ) (c b : ℕ) → c ≤ boards_in s → leb (blocks_in s) b ≡ off_rack (get s) c b
-block_test s c b l = ap (λ (t : Bool). t || leb (blocks_in s) b) (sym (le-ltb (boards_in s) c l)) ∙ off_rack_is s c b
-
-module _ {off : Bool} (s : List ℕ) (c b w : ℕ) (is : off ≡ off_rack (get s) c b) where
-  pub off_word : off ≡ true → true ≡ (off_rack (get s) c b || ltb 7 w)
-  off_word e = sym (or_left (off_rack (get s) c b) (ltb 7 w) (sym is ∙ e))
-
-  pub word_test : off ≡ false → ltb 7 w ≡ (off_rack (get s) c b || ltb 7 w)
-  word_test e = ap (λ (t : Bool). t || ltb 7 w) (sym e ∙ is)
 
 -- a word on the rack is one of a block on it
 pub on_of : {off : Bool} (s : List ℕ) (c b w : ℕ) → off ≡ (off_rack (get s) c b || ltb 7 w) → off ≡ false → off_rack (get s) c b ≡ false
 on_of s c b w is on = or_l (off_rack (get s) c b) (ltb 7 w) (sym is ∙ on)
 
-pub full_is : (s : List ℕ) → leb 64 (messages_in s) ≡ mesh_full (get s)
-unfolding mesh_limit
-full_is s = ap (leb 64) (sym (mesh_is s))
-
 -- ---- after the test for off rack
 
 module _ (s : List ℕ) (c b : ℕ) {off : Bool} (is : off ≡ off_rack (get s) c b) (on : off ≡ false) where
-  tests : (ltb (boards_in s) c || leb (blocks_in s) b) ≡ false
-  tests = off_rack_is s c b ∙ sym is ∙ on
-
   component_on : c ≤ boards_in s
-  component_on = ltb-false (boards_in s) c (or_l (ltb (boards_in s) c) (leb (blocks_in s) b) tests)
+  component_on = grind (arith, boards_is s)
 
   pub block_on : b < blocks_in s
-  block_on = leb-false (blocks_in s) b (or_r (ltb (boards_in s) c) (leb (blocks_in s) b) tests)
+  block_on = grind (arith, blocks_is s)
 
   pub in_cell : InLayout s → CellInRecord s b c
   in_cell whole = record { whole = whole; block = block_on; component = component_on }
@@ -74,12 +48,12 @@ module _ (s : List ℕ) (c b : ℕ) {off : Bool} (is : off ≡ off_rack (get s) 
 
 -- after the test for the home memory
 pub board_one : (c : ℕ) {home : Bool} → home ≡ eqb c 0 → home ≡ false → 1 ≤ c
-board_one c is on = ⊎_elim (λ (l : 0 < c). l) (λ (l : c ≤ 0). differs (sym (eq-eqb c 0 (omega arith)) ∙ sym is ∙ on)) (lt_or_le 0 c)
+board_one c is on = grind arith
 
 -- after the test for a word off the rack
 pub on_word : (s : List ℕ) → InLayout s → (c b w : ℕ) {off : Bool} → off ≡ (off_rack (get s) c b || ltb 7 w) → off ≡ false → CellInRecord s b c × (w < 8)
 on_word s whole c b w is on =
-    (in_cell s c b refl (on_of s c b w is on) whole, omega (arith, ltb-false 7 w (or_r (off_rack (get s) c b) (ltb 7 w) (sym is ∙ on))))
+    (in_cell s c b refl (on_of s c b w is on) whole, grind arith)
 
 -- every sound rack has a board
 pub some_board : (s : List ℕ) → SoundRecord s → 1 ≤ boards_in s

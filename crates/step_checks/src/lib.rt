@@ -19,14 +19,12 @@ use spec_rack::{
 use spec_wire::Refusal;
 
 // Whether the component is above N or the block not below B.
+#[tactic(auto, using(spec_rack::proofs::GetPut::boards_is, spec_rack::proofs::GetPut::blocks_is))]
 pub fn off_rack(rec: &[u8], component: u8, block: u8) -> bool
     requires { InLayout rec.now }
     ensures { result ≡ off_rack (get rec.now) component block }
 {
-    if rec[BOARD_COUNT_OFFSET] < component {
-        return true;
-    }
-    rec[BLOCK_COUNT_OFFSET] <= block
+    rec[BOARD_COUNT_OFFSET] < component || rec[BLOCK_COUNT_OFFSET] <= block
 }
 
 // Whether the component or the block is off the rack, or the word is above 7.
@@ -34,10 +32,7 @@ pub fn off_rack_word(rec: &[u8], component: u8, block: u8, word: u8) -> bool
     requires { InLayout rec.now }
     ensures { result ≡ (off_rack (get rec.now) component block || ltb 7 word) }
 {
-    if off_rack(rec, component, block) {
-        return true;
-    }
-    7 < word
+    off_rack(rec, component, block) || 7 < word
 }
 
 // Whether the component is the home memory.
@@ -48,6 +43,7 @@ pub fn at_home(component: u8) -> bool
 }
 
 // What a raise and a lower ask first: a component and a block on the rack, and no home memory.
+#[tactic(auto, using(crate::proofs::CheckLaws::lines), unfolding(crate::specs::Checked::board_lines))]
 pub fn board_check(rec: &[u8], component: u8, block: u8) -> Result<(), Refusal>
     requires { InLayout rec.now }
     ensures { result ≡ board_lines (get rec.now) component block no_refusal }
@@ -65,7 +61,7 @@ pub fn board_check(rec: &[u8], component: u8, block: u8) -> Result<(), Refusal>
 pub fn claims_offset(block: u8) -> usize
     ensures { result ≡ block_offset block + claims_offset }
 {
-    BLOCKS_OFFSET + BLOCK_SIZE * (block as usize) + CLAIMS_OFFSET
+    BLOCKS_OFFSET + BLOCK_SIZE * usize::from(block) + CLAIMS_OFFSET
 }
 
 // The waiting set of a block.
@@ -84,6 +80,7 @@ pub fn claimed(boards: u16) -> bool
 }
 
 // Whether 64 messages are in flight.
+#[tactic(auto, using(spec_rack::proofs::GetPut::mesh_is), unfolding(spec_rack::specs::Rack::mesh_limit))]
 pub fn mesh_full(rec: &[u8]) -> bool
     requires { InLayout rec.now }
     ensures { result ≡ mesh_full (get rec.now) }
@@ -92,13 +89,11 @@ pub fn mesh_full(rec: &[u8]) -> bool
 }
 
 // A line of the table: the refusal if the test passes, else the verdict of the lines below. A table of such lines has no branch.
+#[tactic(auto, using(crate::proofs::CheckLaws::lines))]
 pub fn line(test: bool, refusal: Refusal, below: Result<(), Refusal>) -> Result<(), Refusal>
     ensures { result ≡ (when test refuse refusal else below) }
 {
-    if test {
-        return Err(refusal);
-    }
-    below
+    if test { Err(refusal) } else { below }
 }
 
 // Whether a verdict lets the step pass.
