@@ -15,6 +15,8 @@ use Rattle.spec_wire.specs.declared.Refusal.{Refusal}
 use Rattle.spec_wire.specs.declared.Refusal.TheVariants.{ShortBuffer}
 use Rattle.std.specs.Prelude.{Ok, Err}
 use Rattle.spec_wire.specs.Writer.{written, placed}
+pub use Rattle.spec_wire.proofs.KindTable.{sizes_bound, places_length}
+pub use Rattle.spec_wire.proofs.RecordSizes.{length_body, length_record}
 
 -- writing, where there is room and where not
 module _ (bs : List ℕ) (at : ℕ) (out : List ℕ) where
@@ -58,6 +60,9 @@ module _ (bs : List ℕ) (at : ℕ) (out : List ℕ) (within : at ≤ length out
       by_room : Dec (at + length bs ≤ length out) → put_mid at (length out - at) out (placed bs 0 part) ≡ placed bs at out
       by_room (yes h) = ap back (sym (placed_room bs 0 part (omega (arith, long)))) ∙ place_rest at bs out h ∙ placed_room bs at out h
       by_room (no h) = ap back (sym (placed_short bs 0 part (omega (arith, long, h)))) ∙ put_same at (length out - at) out ∙ placed_short bs at out (omega (arith, h))
+
+-- what is written, and how long it is
+pub ruleset laws = (written_room, written_short, placed_room, placed_short, written_part, placed_part, sizes_bound, places_length, length_body, length_record)
 
 pub refused_count : {r : Refusal} {n : ℕ} → Err r ≡ Ok n → ⊥
 refused_count e = let z : ◌≡◌ {A = ℕ} 0 1 = cc in omega arith

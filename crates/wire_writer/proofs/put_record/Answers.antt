@@ -1,10 +1,8 @@
 -- `wire_writer::put_record` meets its contract: the kind, the length and the fields are placed one after the other.
-use Rattle.spec_wire.specs.declared.Refusal.TheVariants.{ShortBuffer}
-use Rattle.std.specs.Prelude.{Ok, Err}
 use Rattle.spec_base.specs.Placing.{place}
-use Rattle.spec_wire.specs.Writer.{written, placed}
+use Rattle.spec_wire.specs.Writer.{placed}
 use mathlib.Core.Path.{◌≡◌, sym, ap, ◌∙◌}
-use Prim.Native.Nat.{ℕ, ◌+◌, ◌-◌, ◌≤◌, ◌<◌}
+use Prim.Native.Nat.{ℕ, ◌+◌, ◌-◌, ◌≤◌}
 use native.Mathlib.Omega.{arith}
 use mathlib.Core.List.{List, [], ◌∷◌, map}
 use lib.ListN.{length, take, drop, set}
@@ -12,11 +10,10 @@ use borrow.Rule.Slice.PartMut.{put_mid}
 use Rattle.spec_base.specs.Number.{digits}
 use Rattle.spec_wire.specs.Kinds.{field_of}
 use Rattle.spec_wire.specs.StepRecord.{field_sizes, body_bytes, record_bytes}
-use Rattle.spec_wire.proofs.KindTable.{sizes_bound}
 use Rattle.spec_wire.proofs.RecordSizes.{length_body, length_record}
 use Rattle.spec_base.proofs.Placing.{place_rest}
 use Rattle.wire_writer.proofs.FieldOrder.{length_head, place_head, place_framed}
-use Rattle.wire_writer.proofs.PlacedRecord.{written_room, written_short, placed_room, placed_short}
+use Rattle.wire_writer.proofs.PlacedRecord.{placed_room}
 use Rattle.wire_writer.proofs.put_record.Goals as goal
 
 -- the record's length, and the buffer after its head and its fields
@@ -39,26 +36,11 @@ module _ (kind : ℕ) (out tags p : List ℕ) (n : ℕ) (sized : n ≡ field_siz
       ∙ ap (λ (l : List ℕ). place 3 body l) head
       ∙ rw (← count) (place_framed kind n body out (omega (arith, count)))
 
-  whole : length (record_bytes kind body) ≡ 3 + n
-  whole = length_record kind body ∙ ap (λ (k : ℕ). 3 + k) (sym count)
+  written_whole : {after : List ℕ} → 3 + n ≤ length out → after ≡ place 0 (record_bytes kind body) out → after ≡ placed (record_bytes kind body) 0 out
+  written_whole h e = e ∙ placed_room (record_bytes kind body) 0 out (omega (arith, length_record kind body, count))
 
-  no_room : length out < 3 + n → (Err ShortBuffer ≡ written (record_bytes kind body) 0 out) × (out ≡ placed (record_bytes kind body) 0 out)
-  no_room h = (written_short (record_bytes kind body) 0 out (omega (arith, whole)), placed_short (record_bytes kind body) 0 out (omega (arith, whole)))
-
-  room : {after : List ℕ} → 3 + n ≤ length out → after ≡ place 0 (record_bytes kind body) out → (Ok (3 + n) ≡ written (record_bytes kind body) 0 out) × (after ≡ placed (record_bytes kind body) 0 out)
-  room h e = (ap Ok (sym whole) ∙ written_room (record_bytes kind body) 0 out (omega (arith, whole)), e ∙ placed_room (record_bytes kind body) 0 out (omega (arith, whole)))
-
-pub overflow_add-total : goal.overflow_add-total
-overflow_add-total c =
-    omega (arith, c.fields_size-body.ensures, sizes_bound c.args.tags.now, c.requires)
-
-pub returns-then-out-total : goal.returns-then-out-total
-returns-then-out-total c =
-    let both = no_room c.args.kind c.args.out.now c.args.tags.now c.args.numbers.now _ c.fields_size-body.ensures (omega arith) in
-    record { answer = both.0; buffer = both.1 }
-
-pub returns : goal.returns
-returns c =
-    let both = room c.args.kind c.args.out.now c.args.tags.now c.args.numbers.now _ c.fields_size-body.ensures (omega arith)
-    (finished c.args.kind c.args.out.now c.args.tags.now c.args.numbers.now _ c.fields_size-body.ensures _ _ (omega arith) c.put_number.ensures c.put_fields.ensures) in
-    record { answer = both.0; buffer = both.1 }
+pub returns-clause-buffer : goal.returns-clause-buffer
+returns-clause-buffer c =
+    let sized = c.fields_size-body.ensures in
+    written_whole c.args.kind c.args.out.now c.args.tags.now c.args.numbers.now _ sized (omega arith)
+    (finished c.args.kind c.args.out.now c.args.tags.now c.args.numbers.now _ sized _ _ (omega arith) c.put_number.ensures c.put_fields.ensures)

@@ -6,11 +6,11 @@ use Rattle.spec_base.proofs.Placing.{place_none}
 use Rattle.wire_writer.proofs.PlacedFields.{turn}
 use Rattle.wire_writer.proofs.fields.put_fields.Goals as goal
 
-pub loop-i-preserved : goal.loop-i-preserved
-loop-i-preserved c =
-    turn _ _ _ _ _ _ c.loop-i.invariant c.loop-i-test.true _ _ _ _ c.field_of-field.ensures c.number_of-value.ensures.0 c.put_field-at.ensures.0 c.put_field-at.ensures.1
+pub loop-tag-preserved : goal.loop-tag-preserved
+loop-tag-preserved c =
+    turn _ _ _ _ _ _ c.loop-tag.invariant c.loop-tag-test.true _ _ _ _ c.field_of-field.ensures c.number_of-value.ensures.0 c.put_field-at.ensures.0 c.put_field-at.ensures.1
 
 pub returns : goal.returns
 returns c =
-    let none_left : drop c.loop-i.i c.args.tags.now ≡ [] = drop_of_length-le c.args.tags.now c.loop-i-test.false in
-    sym (place_none c.loop-i.at c.loop-i.out) ∙ (rw none_left at c.loop-i.invariant.whole)
+    let none_left : drop c.loop-tag.tag-index c.args.tags.now ≡ [] = drop_of_length-le c.args.tags.now c.loop-tag-test.false in
+    sym (place_none c.loop-tag.at c.loop-tag.out) ∙ (rw none_left at c.loop-tag.invariant.whole)
