@@ -5,9 +5,11 @@ ghost use Rattle.std.specs.Prelude.{◌≡◌, ◌+◌, ◌≤◌, ◌<◌, leng
 ghost use Rattle.spec_rack.specs.Letter.{letter_of, letter_reply};
 ghost use Rattle.spec_rack.specs.RecordLayout.{owner_offset, dirty_offset, cell_at_offset, tokens_in};
 
-use base::{either, wide_at};
 use record_soundness::sound;
-use spec_rack::{BLOCK_COUNT_OFFSET, BLOCK_SIZE, BLOCKS_OFFSET, BOARD_COUNT_OFFSET, DIRTY_OFFSET, Letter, OWNER_OFFSET, TOKEN_COUNT_OFFSET, VALID_OFFSET};
+use spec_rack::{
+    BLOCK_COUNT_OFFSET, BLOCK_SIZE, BLOCKS_OFFSET, BOARD_COUNT_OFFSET, DIRTY_OFFSET, Letter,
+    OWNER_OFFSET, TOKEN_COUNT_OFFSET, VALID_OFFSET,
+};
 use spec_wire::Refusal;
 
 // The letter of the component whose plain count is at `at`.
@@ -15,10 +17,10 @@ fn letter_at(rec: &[u8], at: usize) -> Letter
     requires { (at + dirty_offset < length rec.now) × (get_or rec.now (at + owner_offset) 0 < 2) × (get_or rec.now (at + dirty_offset) 0 ≤ get_or rec.now (at + owner_offset) 0) }
     ensures { result ≡ letter_of (tokens_in rec.now) (cell_at_offset rec.now at) }
 {
-    let owner = wide_at(rec, at + OWNER_OFFSET);
-    if wide_at(rec, at) + owner == wide_at(rec, TOKEN_COUNT_OFFSET) {
+    let owner = rec[at + OWNER_OFFSET];
+    if u32::from(rec[at]) + u32::from(owner) == u32::from(rec[TOKEN_COUNT_OFFSET]) {
         // The owner is clean where its byte is 1 and its dirty byte 0.
-        if wide_at(rec, at + DIRTY_OFFSET) < owner {
+        if rec[at + DIRTY_OFFSET] < owner {
             return Letter::E;
         }
         return Letter::M;
@@ -26,7 +28,7 @@ fn letter_at(rec: &[u8], at: usize) -> Letter
     if owner == 1 {
         return Letter::O;
     }
-    if wide_at(rec, at + VALID_OFFSET) == 1 {
+    if rec[at + VALID_OFFSET] == 1 {
         Letter::S
     } else {
         Letter::I
@@ -39,10 +41,9 @@ pub fn letter(rec: &[u8], component: u32, block: u32) -> Result<Letter, Refusal>
     if !sound(rec) {
         return Err(Refusal::Unsound);
     }
-    if either(
-        wide_at(rec, BOARD_COUNT_OFFSET) < component,
-        wide_at(rec, BLOCK_COUNT_OFFSET) <= block,
-    ) {
+    let boards = u32::from(rec[BOARD_COUNT_OFFSET]);
+    let blocks = u32::from(rec[BLOCK_COUNT_OFFSET]);
+    if (boards < component) | (blocks <= block) {
         return Err(Refusal::OffRack);
     }
     if component == 0 {
