@@ -1,2 +1,1 @@
-pub mod SendTable
 pub mod SentTokens

@@ -6,10 +6,11 @@ ghost use Rattle.spec_rack.specs.RecordLayout.{get, put};
 ghost use Rattle.spec_rack.specs.Entries.{reply_to_step, buffer_after};
 ghost use Rattle.record.specs.Needs.{InLayout, SoundRecord};
 
+use super::Transfer;
 use super::send::send_tokens;
 use arbiter::sets;
 use record::owner::is_present;
-use spec_rack::{Answer};
+use spec_rack::Answer;
 use spec_wire::{Refusal, Step};
 
 fn forward_check(rec: &[u8], component: u8, block: u8) -> Result<(), Refusal>
@@ -21,7 +22,7 @@ fn forward_check(rec: &[u8], component: u8, block: u8) -> Result<(), Refusal>
     }
     let boards = step_checks::waiting_set(rec, block);
     let held = step_tokens::held(record::cells::token_state(rec, block, component));
-    let full = step_checks::line(step_checks::mesh_full(rec), Refusal::MeshFull, Check::no_refusal);
+    let full = step_checks::line(step_checks::mesh_full(rec), Refusal::MeshFull, Ok(()));
     let none = step_checks::line(held == 0, Refusal::NoToken, full);
     let apart = step_checks::line(component == sets::lowest(boards), Refusal::SelfSend, none);
     step_checks::line(boards == 0, Refusal::Unclaimed, apart)
@@ -32,31 +33,26 @@ fn forward_tokens(rec: &mut [u8], component: u8, block: u8)
     requires { SoundRecord rec.old × (check (get rec.old) (Step.Forward component block) ≡ no_refusal) }
     ensures { rec.new ≡ put (after (get rec.old) (Step.Forward component block)) rec.old }
 {
-    let target = arbiter::claims::active_at(rec, step_checks::claims_offset(block));
     let state = record::cells::token_state(rec, block, component);
-    let owner = state.owner;
-    let has_owner = is_present(owner);
-    send_tokens(
-        rec,
+    let transfer = Transfer {
         component,
         block,
-        target,
-        state.plain,
-        has_owner,
-        state.valid,
-    );
+        target: arbiter::claims::active_at(rec, step_checks::claims_offset(block)),
+        plain: state.plain,
+        owner: is_present(state.owner),
+        data: state.valid,
+    };
+    send_tokens(rec, transfer);
 }
 
 // A forward: refused, with nothing changed, or made.
+#[tactic(auto, unfolding(spec_rack::specs::Rules::rules, spec_rack::specs::Rules::answer))]
 pub fn forward(rec: &mut [u8], component: u8, block: u8) -> Result<Answer, Refusal>
     requires { SoundRecord rec.old }
     ensures reply { result ≡ reply_to_step rec.old (Step.Forward component block) }
     ensures buffer { rec.new ≡ buffer_after rec.old (Step.Forward component block) }
 {
-    let verdict = forward_check(rec, component, block);
-    if step_checks::is_pass(verdict) {
-        forward_tokens(rec, component, block);
-        return Ok(Answer::Done);
-    }
-    step_checks::reply_of(verdict)
+    forward_check(rec, component, block)?;
+    forward_tokens(rec, component, block);
+    Ok(Answer::Done)
 }
