@@ -5,7 +5,7 @@ ghost use Rattle.spec_arbiter.specs.Claims.{raised, lowered};
 ghost use Rattle.spec_rack.specs.RecordLayout.{claims, claims_at_offset, put_claims, claims_size};
 
 use super::sets;
-use base::numbers::{put_u16, u16_at};
+use base::numbers::BigEndian;
 use spec_rack::WAITING_OFFSET;
 
 // The board joins the waiting set.
@@ -14,9 +14,9 @@ pub fn raise_at(rec: &mut [u8], at: usize, board: u8)
     ensures { (n : ℕ) → n < 16 → (claims n).well_formed (slice at claims_size rec.old) ≡ true → rec.new ≡ put_claims n at (raised (claims_at_offset n at rec.old) board) rec.old }
 {
     let place = at + WAITING_OFFSET;
-    let w = u16_at(rec, place);
+    let w = u16::read_at(rec, place);
     let more = sets::insert(w, board);
-    put_u16(rec, place, more);
+    more.write_at(rec, place);
 }
 
 // The board leaves the waiting set and every barring set; its own barring set becomes the waiting set that remains.
@@ -26,14 +26,14 @@ pub fn lower_at(rec: &mut [u8], at: usize, boards: u8, board: u8)
 {
     for number in 1..=boards {
         let place = at + 2 * usize::from(number);
-        let s = u16_at(rec, place);
+        let s = u16::read_at(rec, place);
         let left = sets::remove(s, board);
-        put_u16(rec, place, left);
+        left.write_at(rec, place);
     }
     let waiting = at + WAITING_OFFSET;
-    let w = u16_at(rec, waiting);
+    let w = u16::read_at(rec, waiting);
     let others = sets::remove(w, board);
-    put_u16(rec, waiting, others);
+    others.write_at(rec, waiting);
     let own = at + 2 * usize::from(board);
-    put_u16(rec, own, others);
+    others.write_at(rec, own);
 }

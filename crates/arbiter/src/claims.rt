@@ -7,7 +7,7 @@ ghost use Rattle.spec_arbiter.specs.Claims.{waiting, active, raise_check, lower_
 ghost use Rattle.spec_rack.specs.RecordLayout.{claims_at_offset, claims_size};
 
 use super::sets;
-use base::numbers::u16_at;
+use base::numbers::BigEndian;
 use spec_rack::WAITING_OFFSET;
 use spec_wire::Refusal;
 
@@ -16,7 +16,7 @@ pub fn waiting_at(rec: &[u8], at: usize) -> u16
     requires { at + claims_size ≤ length rec.now }
     ensures { (n : ℕ) → result ≡ waiting (claims_at_offset n at rec.now) }
 {
-    u16_at(rec, at + WAITING_OFFSET)
+    u16::read_at(rec, at + WAITING_OFFSET)
 }
 
 // The active board: the lowest-numbered waiting board, and 16 where no board waits.
@@ -36,7 +36,7 @@ pub fn raise_check(rec: &[u8], at: usize, board: u8) -> Result<(), Refusal>
     if waits {
         return Err(Refusal::Waiting);
     }
-    let own = u16_at(rec, at + 2 * usize::from(board));
+    let own = u16::read_at(rec, at + 2 * usize::from(board));
     if own != 0 {
         return Err(Refusal::Barred);
     }

@@ -8,8 +8,8 @@ ghost use Rattle.spec_rack.specs.RecordLayout.{claims, claims_at_offset, claims_
 
 use super::claims::waiting_at;
 use super::sets;
-use base::all_zero;
-use base::numbers::u16_at;
+use base::is_zero;
+use base::numbers::BigEndian;
 use spec_rack::WAITING_OFFSET;
 
 // Whether a board's barring set lies within the waiting set, and is empty where the board waits. Most are empty: that is looked at first.
@@ -36,7 +36,7 @@ fn sets_sound(rec: &[u8], at: usize, boards: u8) -> bool
         return false;
     }
     for board in 1..=boards {
-        let s = u16_at(rec, at + 2 * usize::from(board));
+        let s = u16::read_at(rec, at + 2 * usize::from(board));
         if !barring_sound(w, board, s) {
             return false;
         }
@@ -50,8 +50,7 @@ fn unused_sets_zero(rec: &[u8], at: usize, boards: u8) -> bool
     ensures { result ≡ (claims boards).well_formed (slice at claims_size rec.now) }
 {
     let used = usize::from(boards) * 2;
-    let behind = at + 2 + used;
-    all_zero(rec, at, 2) & all_zero(rec, behind, 30 - used)
+    is_zero(&rec[at..at + 2]) & is_zero(&rec[at + 2 + used..at + WAITING_OFFSET])
 }
 
 // Whether a board is barred: a byte of the barring sets is not 0.
@@ -59,7 +58,7 @@ pub fn some_barred(rec: &[u8], at: usize) -> bool
     requires { at + claims_size ≤ length rec.now }
     ensures { result ≡ not (all_below 32 (λ i. eqb (get_or rec.now (at + i) 0) 0)) }
 {
-    !all_zero(rec, at, WAITING_OFFSET)
+    !is_zero(&rec[at..at + WAITING_OFFSET])
 }
 
 // Whether only boards wait. Where no board is barred this alone decides whether the sets are formed and sound.

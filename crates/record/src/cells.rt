@@ -7,7 +7,7 @@ ghost use Rattle.record.specs.Needs.{CellInRecord};
 ghost use Rattle.record.specs.Changes.{TokenStateOf, with_token_state, replace_cell};
 
 use super::{TokenState, owner, tokens, words};
-use base::numbers::{put_u32, u32_at};
+use base::numbers::BigEndian;
 use spec_rack::{
     BLOCK_SIZE, BLOCKS_OFFSET, DIRTY_OFFSET, LANE_SIZE, OWNER_OFFSET, VALID_OFFSET, WORDS_OFFSET,
     WORDS_SIZE,
@@ -58,7 +58,7 @@ pub fn word(rec: &[u8], block: u8, component: u8, index: u8) -> u32
     ensures { result ≡ get_or (cell_at (get rec.now) block component).words index 0 }
 {
     let at = words_offset(block, component);
-    u32_at(rec, at + 4 * usize::from(index))
+    u32::read_at(rec, at + 4 * usize::from(index))
 }
 
 // Writes a word of a cell that has the owner, and marks the owner dirty.
@@ -69,7 +69,7 @@ pub fn set_word(rec: &mut [u8], block: u8, component: u8, index: u8, value: u32)
     let plain = plain_offset(block, component);
     let at = words_offset(block, component);
     let place = at + 4 * usize::from(index);
-    put_u32(rec, place, value);
+    value.write_at(rec, place);
     rec[plain + DIRTY_OFFSET] = 1;
 }
 

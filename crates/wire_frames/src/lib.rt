@@ -4,7 +4,7 @@
 ghost use Rattle.std.specs.Prelude.{◌≡◌, ◌+◌, ◌≤◌, ◌<◌, length, drop};
 ghost use Rattle.spec_wire.specs.Frames.{frame_size};
 
-use base::numbers::u16_at;
+use base::numbers::BigEndian;
 
 // The end of the step record that starts at `at`, which is below the end of the list.
 #[tactic(auto, using(crate::proofs::Framing::cutting), unfolding(spec_wire::specs::Frames::frame_size))]
@@ -16,7 +16,7 @@ pub fn frame_end_within(list: &[u8], at: usize) -> usize
     if left < 3 {
         return list.len();
     }
-    let size = 3 + usize::from(u16_at(list, at + 1));
+    let size = 3 + usize::from(u16::read_at(list, at + 1));
     if left < size {
         return list.len();
     }

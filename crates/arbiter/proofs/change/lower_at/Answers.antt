@@ -12,7 +12,7 @@ loop-number-init c = lower_none c.args.boards c.args.at c.requires.3 c.args.rec.
 pub loop-number-preserved : goal.loop-number-preserved
 loop-number-preserved c =
     lower_more c.args.boards c.args.at c.requires.3 c.args.rec.now (λ k. search rules) c.requires.0 c.requires.4 c.args.board _ _ _ _ _ _ _ (omega arith) (omega arith) (omega arith) c.loop-number.invariant
-    c.u16_at-s.ensures c.remove-left.ensures c.remove-left.type_inv c.put_u16.ensures
+    c.read_at-s.ensures c.remove-left.ensures c.remove-left.type_inv c.write_at.ensures
 
 pub returns : goal.returns
 returns c =
@@ -21,7 +21,7 @@ returns c =
       | else-loop-number-test w ↦ absurd (omega arith)
       | then-loop-number-test+else-number-boards w ↦
           lower_more c.args.boards c.args.at c.requires.3 c.args.rec.now (λ k. search rules) c.requires.0 c.requires.4 c.args.board _ _ _ _ _ _ _ (omega arith) (omega arith) (omega arith) c.loop-number.invariant
-          w.u16_at-s.ensures w.remove-left.ensures w.remove-left.type_inv (w.rec-is ∙ w.put_u16.ensures)
+          w.read_at-s.ensures w.remove-left.ensures w.remove-left.type_inv (w.rec-is ∙ w.write_at.ensures)
     ] in
     lower_is c.args.boards c.args.at c.requires.3 c.args.rec.now (λ k. search rules) c.requires.0 c.requires.4 c.args.board _ _ _ _ _ _ c.requires.1 c.requires.2 all
-    c.u16_at-w.ensures c.remove-others.ensures c.remove-others.type_inv c.remove-others.ensures c.put_u16-2.ensures (rw c.from-2.ensures at c.put_u16-3.ensures)
+    c.read_at-w.ensures c.remove-others.ensures c.remove-others.type_inv c.remove-others.ensures c.write_at-2.ensures (rw c.from-2.ensures at c.write_at-3.ensures)

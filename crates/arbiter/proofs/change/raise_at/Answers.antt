@@ -5,4 +5,4 @@ use Rattle.arbiter.proofs.change.raise_at.Goals as goal
 
 pub returns : goal.returns
 returns c = λ n f o. raise_is n c.args.at f c.args.rec.now (λ k. search rules) c.requires.0 o c.args.board
-    _ _ _ c.u16_at-w.ensures c.insert-more.ensures (search rules) c.put_u16.ensures
+    _ _ _ c.read_at-w.ensures c.insert-more.ensures (search rules) c.write_at.ensures

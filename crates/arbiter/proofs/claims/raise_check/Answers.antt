@@ -10,9 +10,9 @@ returns-then-waits c = λ n l f. let waiting = c.waiting_at.ensures n in sym (ra
 pub returns-then-own-ne0 : goal.returns-then-own-ne0
 returns-then-own-ne0 c = λ n l f.
     let waiting = c.waiting_at.ensures n in
-    sym (raise_barred _ _ (cc) (λ e. c.if-own-ne0.true (rw c.from.ensures at c.u16_at-own.ensures ∙ barring_is n _ _ _ f c.requires.1 l ∙ e)))
+    sym (raise_barred _ _ (cc) (λ e. c.if-own-ne0.true (rw c.from.ensures at c.read_at-own.ensures ∙ barring_is n _ _ _ f c.requires.1 l ∙ e)))
 
 pub returns : goal.returns
 returns c = λ n l f.
     let waiting = c.waiting_at.ensures n in
-    sym (raise_pass _ _ (cc) (sym (barring_is n _ _ _ f c.requires.1 l) ∙ sym (rw c.from.ensures at c.u16_at-own.ensures) ∙ c.if-own-ne0.false))
+    sym (raise_pass _ _ (cc) (sym (barring_is n _ _ _ f c.requires.1 l) ∙ sym (rw c.from.ensures at c.read_at-own.ensures) ∙ c.if-own-ne0.false))

@@ -4,4 +4,4 @@ use mathlib.Core.Path.{◌∙◌}
 use Rattle.arbiter.proofs.claims.waiting_at.Goals as goal
 
 pub returns : goal.returns
-returns c = λ n. c.u16_at.ensures ∙ waiting_is n c.args.at c.args.rec.now
+returns c = λ n. c.read_at.ensures ∙ waiting_is n c.args.at c.args.rec.now

@@ -19,8 +19,8 @@ only_boards c = ap (boards_only c.args.boards) (sym (c.waiting_at-w.ensures c.ar
 -- what the test of a barring set tells
 tested : (c : After-barring_sound) → c.barring_sound.result ≡ sound_barring c.args.boards (claims_at_offset c.args.boards c.args.at c.args.rec.now) c.loop-board.board
 tested c =
-    barring_test c.args.boards _ _ _ _ _ (sym c.boards_only.ensures ∙ c.if-not-boards_only.false) c.u16_at-s.type_inv (c.waiting_at-w.ensures c.args.boards)
-    (rw c.from.ensures at c.u16_at-s.ensures ∙ barring_is c.args.boards c.args.at c.loop-board.board c.args.rec.now (omega arith) (omega arith) (omega arith))
+    barring_test c.args.boards _ _ _ _ _ (sym c.boards_only.ensures ∙ c.if-not-boards_only.false) c.read_at-s.type_inv (c.waiting_at-w.ensures c.args.boards)
+    (rw c.from.ensures at c.read_at-s.ensures ∙ barring_is c.args.boards c.args.at c.loop-board.board c.args.rec.now (omega arith) (omega arith) (omega arith))
     c.barring_sound.ensures
 
 -- every board's barring set is sound

@@ -13,7 +13,7 @@ pub loop-i-init : goal.loop-i-init
 loop-i-init c = sym (cut c.args.at 32 c.args.s.now)
 
 pub loop-i-preserved : goal.loop-i-preserved
-loop-i-preserved c = c.put_u32.ensures ∙ ap (modify_at (c.args.at + 4 * c.loop-i.i) 4 ((big 4).write (get_or c.args.values c.loop-i.i 0))) c.loop-i.invariant
+loop-i-preserved c = c.write_at.ensures ∙ ap (modify_at (c.args.at + 4 * c.loop-i.i) 4 ((big 4).write (get_or c.args.values c.loop-i.i 0))) c.loop-i.invariant
     ∙ lined_more c.args.s.now c.args.at c.args.values (search rules) c.requires c.loop-i.i (omega arith)
 
 pub returns : goal.returns
