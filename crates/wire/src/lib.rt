@@ -6,7 +6,7 @@ ghost use Rattle.std.specs.Prelude.{◌≡◌};
 ghost use Rattle.spec_wire.specs.Answers.{Reading};
 ghost use Rattle.spec_wire.specs.RoundTrip.{rewritten, replaced};
 
-use spec_wire::{Step};
+use spec_wire::{Refusal, Step};
 
 pub mod exports;
 
@@ -15,10 +15,8 @@ pub fn written_and_read(step: Step) -> Result<Step, Refusal>
     ensures { result ≡ Ok step }
 {
     let mut out = [0u8; 27];
-    match wire_writer::write(step, &mut out, 0) {
-        Ok(n) => wire_reader::read(&out[..n]),
-        Err(refusal) => Err(refusal),
-    }
+    let count = wire_writer::write(step, &mut out, 0)?;
+    wire_reader::read(&out[..count])
 }
 
 // Bytes, read and written again to the front of `out`, are the same bytes.
@@ -26,8 +24,6 @@ pub fn read_and_written(bytes: &[u8], out: &mut [u8]) -> Result<usize, Refusal>
     ensures answer { result ≡ rewritten bytes.now out.old }
     ensures buffer { out.new ≡ replaced bytes.now out.old }
 {
-    match wire_reader::read(bytes) {
-        Ok(step) => wire_writer::write(step, out, 0),
-        Err(refusal) => Err(refusal),
-    }
+    let step = wire_reader::read(bytes)?;
+    wire_writer::write(step, out, 0)
 }

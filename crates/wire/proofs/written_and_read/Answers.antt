@@ -49,17 +49,17 @@ module _ (s : Step) (out : List ℕ) where
 
 pub slice_bounds-out-end : goal.slice_bounds-out-end
 slice_bounds-out-end c =
-    within c.args.step _ _ _ c.in-Ok.ensures.answer c.in-Ok.ensures.buffer
+    within c.args.step _ _ _ c.in_ok-count.ensures.answer c.in_ok-count.ensures.buffer
 
 pub slice_bounds-read-end : goal.slice_bounds-read-end
 slice_bounds-read-end c =
-    sym (length-take-le _ _ (within c.args.step _ _ _ c.in-Ok.ensures.answer c.in-Ok.ensures.buffer))
+    sym (length-take-le _ _ (within c.args.step _ _ _ c.in_ok-count.ensures.answer c.in_ok-count.ensures.buffer))
 
-pub returns-in-Ok : goal.returns-in-Ok
-returns-in-Ok c =
-    let back = taken c.args.step _ _ _ c.in-Ok.ensures.answer c.in-Ok.ensures.buffer in
+pub returns : goal.returns
+returns c =
+    let back = taken c.args.step _ _ _ c.in_ok-count.ensures.answer c.in_ok-count.ensures.buffer in
     c.read.ensures ∙ ap read_record back ∙ read_written c.args.step (step_fits c.args.step _ c.well_formed.0)
 
-pub returns-in-Err : goal.returns-in-Err
-returns-in-Err c =
-    absurd (never_short c.args.step _ refl c.in-Err.ensures.answer)
+pub returns-in_err-count : goal.returns-in_err-count
+returns-in_err-count c =
+    absurd (never_short c.args.step _ refl c.in_err-count.ensures.answer)
