@@ -57,8 +57,7 @@ fn send_check(rec: &[u8], transfer: Transfer) -> Result<(), Refusal>
     )
 }
 
-// Appends the message, with the component's words where it has data. The call stands twice, so that the words are no choice between two arrays:
-// the compiler then copies or clears them as a whole.
+// Appends the message, with the component's words where it has data.
 fn append_message(rec: &mut [u8], transfer: Transfer, token: Owner)
     requires { CanSend rec.old transfer.component transfer.block transfer.plain × (token ≡ (cell_at (get rec.old) transfer.block transfer.component).owner) }
     ensures { rec.new ≡ put (with_mesh (get rec.old) ((get rec.old).mesh ++ message_of (get rec.old) transfer ∷ [])) rec.old }
@@ -71,18 +70,12 @@ fn append_message(rec: &mut [u8], transfer: Transfer, token: Owner)
         owner: step_tokens::taken_owner(transfer.owner, token),
         data: transfer.data,
     };
-    if transfer.data {
-        let words = record::cells::words_of(rec, transfer.block, transfer.component);
-        record_mesh::append(rec, Message { header, words });
+    let words = if transfer.data {
+        record::cells::words_of(rec, transfer.block, transfer.component)
     } else {
-        record_mesh::append(
-            rec,
-            Message {
-                header,
-                words: [0; 8],
-            },
-        );
-    }
+        [0; 8]
+    };
+    record_mesh::append(rec, Message { header, words });
 }
 
 // Takes the tokens from the component and appends the message.
