@@ -4,13 +4,8 @@ use native.Mathlib.Nat.{sub-zero, zero-add, add-zero}
 use native.Mathlib.Numerals.{add-one}
 use native.Mathlib.Omega.{arith}
 use mathlib.Core.Path.{◌≡◌, refl, sym, ap, ◌∙◌}
-use mathlib.Core.Bool.{Bool, true, false, ◌&&◌}
 use mathlib.Core.List.{List, [], ◌∷◌, ◌++◌, map, append_assoc}
 use lib.ListN.{length, set, take, drop, length-set, length-drop, take-append-drop}
-use lib.Dec.{ltb}
-use mathlib.Core.Logic.{inl, inr, ⊎_elim}
-use borrow.Author.Tests.{ltb-true, ltb-false, lt-ltb}
-use Rattle.spec_base.proofs.Tests.{lt_or_le, and_known, and_l, and_r}
 use lib.Seq.{drop-drop, take-suc-set, drop-set-lt, length-take-le}
 use Rattle.spec_base.specs.Folds.{sum}
 use Rattle.spec_rack.specs.Entries.{step_reply, step_after}
@@ -82,9 +77,9 @@ module _ (rec₀ list : List ℕ) (at : ℕ) (out₀ : List ℕ) where
             goes_on = g.goes_on ∙ ap (λ (l : List (List ℕ)). place + sum length l) rest_first ∙ omega (arith, first_length);
           }
 
-    -- the end
+    -- the end: where there is no room for another reply, or no byte is left, no record is left
     module _ (none : rest place made ≡ []) where
-      pub going_end : RunResult rec₀ list at out₀ made rec place out
+      going_end : RunResult rec₀ list at out₀ made rec place out
       unfolding run_all replies_of
       going_end =
           record {
@@ -99,19 +94,8 @@ module _ (rec₀ list : List ℕ) (at : ℕ) (out₀ : List ℕ) where
             place = sym (g.goes_on ∙ ap (λ (l : List (List ℕ)). place + sum length l) none ∙ add-zero place);
           }
 
-    -- where there is no room for another reply, or no byte is left, no record is left
-    pub ended : (both : Bool) → both ≡ (ltb made (length out) && ltb place (length list)) → both ≡ false → rest place made ≡ []
-    ended both e h =
-        ⊎_elim (λ (full : length out₀ ≤ made). ap (λ (k : ℕ). frames k (drop place list)) (let z : length out₀ - made ≡ 0 = omega arith in z) ∙ cuts_zero (drop place list))
-        (λ (room : made < length out₀). cuts_none (length out₀ - made) (drop place list)
-        (let q : length list ≤ place = ltb-false place (length list) (sym (and_known (ltb made (length out)) (ltb place (length list)) (lt-ltb made (length out) (omega (arith, g.same)))) ∙ sym e ∙ h) in
-        simp length-drop (omega arith)))
-        (⊎_elim inr inl (lt_or_le made (length out₀)))
+    pub going_full : length out₀ ≤ made → RunResult rec₀ list at out₀ made rec place out
+    going_full full = going_end (ap (λ (k : ℕ). frames k (drop place list)) (let z : length out₀ - made ≡ 0 = omega arith in z) ∙ cuts_zero (drop place list))
 
-    -- and where there is room and a byte is left, both are known
-    pub goes : (both : Bool) → both ≡ (ltb made (length out) && ltb place (length list)) → both ≡ true → (made < length out₀) × (place < length list)
-    goes both e h =
-        let q = sym e ∙ h in (
-          omega (arith, g.same, ltb-true made (length out) (and_l (ltb made (length out)) (ltb place (length list)) q)),
-          ltb-true place (length list) (and_r (ltb made (length out)) (ltb place (length list)) q),
-        )
+    pub going_read : length list ≤ place → RunResult rec₀ list at out₀ made rec place out
+    going_read read = going_end (cuts_none (length out₀ - made) (drop place list) (simp length-drop (omega arith)))

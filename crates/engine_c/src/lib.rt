@@ -1,4 +1,5 @@
 // The engine's entries as C calls them: a slice is a pointer and then a length. include/hyaloneth.h declares them.
+// The same five names as in `engine`: a crate is a library or an archive and not both, and what an archive exports is its own (docs/ENTRIES.md).
 #![tactic(auto)]
 
 ghost use Rattle.std.specs.Prelude.{◌≡◌};
