@@ -1,4 +1,4 @@
--- Lanes passed over: bytes as one number, and what was seen at eight places in all blocks.
+-- Lanes passed over: the sum of one, bytes as one number, and what was seen at eight places in all blocks.
 use Prim.Native.Nat.{ℕ, zero, suc, ◌+◌, ◌*◌, ◌-◌, ◌/◌, ◌^◌, ◌≤◌, ◌<◌}
 use native.Mathlib.Nat.{div-eq_of_lt, div-lt_iff_lt-mul}
 use native.Mathlib.Omega.{arith}
@@ -8,15 +8,33 @@ use mathlib.Core.Bool.{Bool, true, false, not, ◌&&◌, ◌||◌}
 use mathlib.Core.List.{List}
 use lib.Bits.{bit_or, and_le_l, and_le_r, or_add_and, or_lt}
 use lib.Dec.{eqb, leb, ltb}
-use lib.ListN.{get_or}
+use lib.ListN.{length, get_or, take, drop}
 use lib.Pow.{pow_pos, pow-add}
 use borrow.Author.Tests.{eq-eqb, eqb-true, le-leb, leb-true, ltb-true, lt-ltb, not-true, not-false}
-use Rattle.spec_base.specs.Folds.{all_below, implies}
+use Rattle.std.specs.List.{sum_by}
+use Rattle.std.specs.Int.{w64, from_le_bytes}
+use Rattle.std.proofs.lemmas.List.{get_or-take, get_or-drop, length-drop}
+use Rattle.std.proofs.lemmas.List.Sums.{sum_by_more}
+use Rattle.spec_base.specs.Folds.{all_below, implies, sum_below}
 use Rattle.spec_base.proofs.Tests.{and_l, and_r, and_of, not_of_true, not_of_false, same_or_not, same_test, lt_or_le, implied, implies_of}
-use Rattle.spec_base.proofs.Folds.{below_at, below_of}
+use Rattle.spec_base.proofs.Folds.{below_at, below_of, sum_none, sum_next, sum_most}
 use Rattle.spec_base.specs.Number.{Bytes}
 use Rattle.spec_rack.specs.RecordLayout.{block_offset, lane_size, owner_offset}
-use Rattle.record_lanes.specs.Lanes.{plain_at, owner_at, holds_token, unused_lanes_empty, low_first}
+use Rattle.record_lanes.specs.Lanes.{plain_at, owner_at, holds_token, unused_lanes_empty, lane_sum, low_first}
+
+-- ---- sixteen bytes added up
+
+sum_front : (s : List ℕ) (at n : ℕ) → at + n ≤ length s → sum_by (λ x. x) (take n (drop at s)) ≡ sum_below n (λ i. get_or s (at + i) 0)
+sum_front s at zero l = sym (sum_none (λ i. get_or s (at + i) 0))
+sum_front s at (suc n) l =
+    let e : suc n ≡ n + 1 = omega arith in
+    ap (λ (k : ℕ). sum_by (λ x. x) (take k (drop at s))) e
+    ∙ omega (arith, sum_by_more (λ x. x) (drop at s) n 0 (simp length-drop (omega arith)), get_or-drop at s n 0, sum_front s at n (omega arith), sum_next (λ i. get_or s (at + i) 0) n)
+    ∙ ap (λ (k : ℕ). sum_below k (λ i. get_or s (at + i) 0)) (sym e)
+
+pub lane_sum_is : (s : List ℕ) (at sum : ℕ) → Bytes s → at + 16 ≤ length s → sum ≡ sum_by (λ x. x) (take 16 (drop at s)) → (sum ≡ lane_sum s at) × (sum ≤ 4080)
+unfolding lane_sum
+lane_sum_is s at sum h l e = (e ∙ sum_front s at 16 l, omega (arith, e, sum_front s at 16 l, sum_most (λ i. get_or s (at + i) 0) 255 16 (λ i u. omega (arith, h (at + i)))))
 
 -- ---- tests of numbers that are 0
 
@@ -80,17 +98,12 @@ low_lt f b (suc n) (suc k) h =
     let rest : low_first (λ i. f (suc i)) n < 2 ^ (8 * k) = low_lt (λ i. f (suc i)) (λ i. b (suc i)) n k (λ p l u. h (suc p) (omega arith) (omega arith)) in
     omega (arith, b 0, rest, eights k)
 
-same_at : (s : List ℕ) (i k : ℕ) → i ≡ k → get_or s i 0 ≡ get_or s k 0
-same_at s i k e = ap (λ (q : ℕ). get_or s q 0) e
-
-pub low_four : (s : List ℕ) (at : ℕ) → get_or s at 0 + get_or s (at + 1) 0 * 256 + get_or s (at + 2) 0 * 65536 + get_or s (at + 3) 0 * 16777216 ≡ low_first (λ i. get_or s (at + i) 0) 4
+-- the machine's load of eight bytes
+pub low_eight : (s : List ℕ) (at n : ℕ) (bytes : List ℕ) → bytes ≡ take 8 (drop at s) → n ≡ from_le_bytes w64 bytes → n ≡ low_first (λ i. get_or s (at + i) 0) 8
 unfolding low_first
-low_four s at = omega (arith, same_at s (at + 0) at (omega arith))
-
-pub low_eight : (s : List ℕ) (at : ℕ) → low_first (λ i. get_or s (at + i) 0) 4 + low_first (λ i. get_or s (at + 4 + i) 0) 4 * 4294967296 ≡ low_first (λ i. get_or s (at + i) 0) 8
-unfolding low_first
-low_eight s at =
-    omega (arith, same_at s (at + 4 + 0) (at + 4) (omega arith), same_at s (at + 4 + 1) (at + 5) (omega arith), same_at s (at + 4 + 2) (at + 6) (omega arith), same_at s (at + 4 + 3) (at + 7) (omega arith))
+low_eight s at n bytes e f =
+    let byte : (i : ℕ) → i < 8 → get_or bytes i 0 ≡ get_or s (at + i) 0 = λ i l. ap (λ (b : List ℕ). get_or b i 0) e ∙ get_or-take 8 (drop at s) i 0 l ∙ get_or-drop at s i 0 in
+    omega (arith, f, byte 0 (omega arith), byte 1 (omega arith), byte 2 (omega arith), byte 3 (omega arith), byte 4 (omega arith), byte 5 (omega arith), byte 6 (omega arith), byte 7 (omega arith))
 
 -- ---- what was seen at eight places
 

@@ -1,9 +1,7 @@
--- `record_lanes::eight` meets its contract: two fours, the second above the first.
-use Prim.Native.Nat.{◌+◌, ◌*◌}
-use mathlib.Core.Path.{◌∙◌}
+-- `record_lanes::eight` meets its contract: eight bytes by their weights.
+use Rattle.std.proofs.Common.{rules}
 use Rattle.record_lanes.proofs.LanePasses.{low_eight}
 use Rattle.record_lanes.proofs.eight.Goals as goal
 
 pub returns : goal.returns
-returns c =
-    (λ i. c.four-low.ensures i + c.four-high.ensures i * 4294967296) ∙ low_eight c.args.s.now c.args.at
+returns c = low_eight c.args.s.now c.args.at c.from_le_bytes.result c.unwrap.result (search rules) c.from_le_bytes.ensures

@@ -1,12 +1,8 @@
 -- `record_lanes::lanes_sound` meets its contract: the loop joins the tests of sixteen places.
-use Prim.Native.Nat.{◌-◌, ◌≤◌}
 use mathlib.Core.Path.{◌≡◌}
 use Rattle.spec_base.specs.Folds.{all_below}
 use Rattle.record_lanes.specs.Lanes.{sound_lane}
 use Rattle.record_lanes.proofs.lanes_sound.Given as goal
 
 abbrev pub invariant-loop-component : goal.invariant-loop-component
-invariant-loop-component l = (l.component ≤ 16) × (l.fine ≡ all_below l.component (sound_lane l.s l.at))
-
-abbrev pub decreases-loop-component : goal.decreases-loop-component
-decreases-loop-component l = 16 - l.component
+invariant-loop-component l = l.sound ≡ all_below l.component (sound_lane l.s l.at)

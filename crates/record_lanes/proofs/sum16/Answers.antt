@@ -1,25 +1,18 @@
--- `record_lanes::sum16` meets its contract: the loop adds sixteen bytes.
-use Prim.Native.Nat.{ℕ, ◌+◌}
-use native.Mathlib.Omega.{arith}
-use mathlib.Core.Path.{◌≡◌, sym, ap, ◌∙◌}
-use lib.ListN.{get_or}
-use Rattle.spec_base.specs.Folds.{sum_below}
-use Rattle.spec_base.proofs.Folds.{sum_none, sum_next}
-use Rattle.record_lanes.specs.Lanes.{lane_sum}
-use borrow.Author.Rules.{rules}
+-- `record_lanes::sum16` meets its contract: sixteen bytes are added up.
+use Rattle.std.proofs.Common.{rules, arith, ◌≡◌, ◌^◌, take, drop}
+use Rattle.std.proofs.iter.runs.Made.{chains}
+use Rattle.std.proofs.lemmas.Iterator.{YieldsList-from_slice}
+use Rattle.std.proofs.lemmas.Iterator.Adapters.{fits_from_length, at_most_from_yields_List}
+use Rattle.std.specs.List.{sum_by}
+use Rattle.record_lanes.proofs.LanePasses.{lane_sum_is}
 use Rattle.record_lanes.proofs.sum16.Goals as goal
 
-pub loop-i-init : goal.loop-i-init
-loop-i-init c = (search rules, sym (sum_none (λ k. get_or c.args.s.now (c.args.at + k) 0)), search rules)
-
-pub loop-i-preserved : goal.loop-i-preserved
-loop-i-preserved c = (
-  search rules,
-  (λ i. c.wide-sum.ensures.0 i + c.loop-i.invariant.1 i) ∙ sym (sum_next (λ k. get_or c.args.s.now (c.args.at + k) 0) c.loop-i.i),
-  omega (arith, c.wide-sum.ensures.1),
-)
-
+-- The sum stands before its bound, so that a sum of fewer bytes is refused there.
 pub returns : goal.returns
-unfolding lane_sum
-returns c = let all : c.loop-i.i ≡ 16 = omega arith in
-    (c.loop-i.invariant.1 ∙ ap (λ (z : ℕ). sum_below z (λ k. get_or c.args.s.now (c.args.at + k) 0)) all, omega arith)
+returns c =
+    let sum : c.sum.result ≡ sum_by (λ x. x) (take 16 (drop c.args.at c.args.s.now)) = search (rules, chains) in
+    lane_sum_is c.args.s.now c.args.at c.sum.result (λ k. (c.type_inv.s k).fits) c.requires sum
+
+pub sum-requires-clause-fits : goal.sum-requires-clause-fits
+sum-requires-clause-fits c =
+    fits_from_length _ _ 16 (2 ^ 32) (at_most_from_yields_List (YieldsList-from_slice c.iter.result.rest.now (search rules)) (search rules)) c.map.ensures.closure (omega arith) (λ x r q k. search rules)
