@@ -7,15 +7,15 @@ use mathlib.Core.Bool.{Bool, true, false, not, ◌&&◌, ◌||◌}
 use mathlib.Core.List.{List}
 use lib.ListN.{length, get_or}
 use lib.Dec.{eqb, leb, ltb}
-use borrow.Author.Tests.{eq-eqb, ne_eqb, ltb-true, lt-ltb, le-ltb, leb-true, le-leb, lt-leb, eqb-true}
+use borrow.Author.Tests.{eq-eqb, ne_eqb, ltb-true, lt-ltb, le-ltb, leb-true, le-leb, eqb-true}
 use Rattle.spec_base.specs.Folds.{toℕ, implies, all_below, all}
-use Rattle.spec_base.proofs.Tests.{either, and_l, and_r, and_of, and_left, and_right, and_known, and_under, and_true, or_none, or_left, or_right, not_of_true, not_of_false, same_test, lt_or_le, eqb_one}
+use Rattle.spec_base.proofs.Tests.{either, and_l, and_r, and_of, and_left, and_under, and_true, or_none, same_test, eqb_one}
 use Rattle.spec_base.specs.Layout.{slice}
 use Rattle.spec_rack.specs.Rack.{present, may_go_bare}
 use Rattle.spec_rack.specs.Soundness.{sound_message}
 use Rattle.spec_rack.specs.RecordLayout.{owner_of, words, target_offset, message_block_offset, message_plain_offset, message_owner_offset, data_offset, message_dirty_offset, message_zero_offset, message_words_offset, words_size}
-use Rattle.record.proofs.FieldBytes.{words_eight, message_read, message_formed, present_is, dirty_most, dirty_only}
-use Rattle.record_message.specs.Messages.{endpoints_known, sound_bare_owner, sound_flags, sound_message_at}
+use Rattle.record.proofs.FieldBytes.{words_eight, words_zero, message_read, message_formed, present_is, dirty_most, dirty_only}
+use Rattle.record_message.specs.Messages.{endpoints_known, sound_bare_owner, sound_flags, words_sound, sound_message_at}
 use mathlib.Core.Logic.{⊎_elim}
 
 -- ---- the owner, data and dirty bytes: as the layout has them, and as the code asks for them
@@ -62,72 +62,15 @@ behind_data o d z l =
     (λ q. let h : d + z * 256 ≤ o = leb-true (d + z * 256) o q in and_of (leb d o) (eqb z 0) (le-leb d o (omega arith)) (eq-eqb z 0 (omega arith)))
     (λ q. le-leb (d + z * 256) o (omega (arith, leb-true d o (and_l (leb d o) (eqb z 0) q), eqb-true z 0 (and_r (leb d o) (eqb z 0) q))))
 
--- ---- the ends, one test after the other
+-- data of 0 or 1, and its words
+words_test : (v : ℕ) (z : Bool) → (ltb v 2 && implies (not (eqb v 1)) z) ≡ (eqb v 1 || (eqb v 0 && z))
+words_test zero z = refl
+words_test (suc zero) z = refl
+words_test (suc (suc v)) z =
+    and_left (ltb (suc (suc v)) 2) (implies (not (eqb (suc (suc v)) 1)) z) (le-ltb (suc (suc v)) 2 (omega arith))
+    ∙ sym (or_none (eqb (suc (suc v)) 1) (eqb (suc (suc v)) 0 && z) (ne_eqb (suc (suc v)) 1 (λ e. omega arith)) (and_left (eqb (suc (suc v)) 0) z (ne_eqb (suc (suc v)) 0 (λ e. omega arith))))
 
-module _ (x y k n b : ℕ) where
-  abbrev ends : Bool
-  ends = (leb x n && leb y n) && (not (eqb x y) && ltb k b)
-
-  pub ends_sender : n < x → ends ≡ false
-  ends_sender h = and_left (leb x n && leb y n) (not (eqb x y) && ltb k b) (and_left (leb x n) (leb y n) (lt-leb x n h))
-
-  pub ends_target : n < y → ends ≡ false
-  ends_target h = and_left (leb x n && leb y n) (not (eqb x y) && ltb k b) (and_right (leb x n) (leb y n) (lt-leb y n h))
-
-  pub ends_same : x ≡ y → ends ≡ false
-  ends_same h = and_right (leb x n && leb y n) (not (eqb x y) && ltb k b) (and_left (not (eqb x y)) (ltb k b) (not_of_true (eqb x y) (eq-eqb x y h)))
-
-  pub ends_block : x ≤ n → y ≤ n → (x ≡ y → ⊥) → ends ≡ ltb k b
-  ends_block h l ne =
-      and_known (leb x n && leb y n) (not (eqb x y) && ltb k b) (and_of (leb x n) (leb y n) (le-leb x n h) (le-leb y n l))
-      ∙ and_known (not (eqb x y)) (ltb k b) (not_of_false (eqb x y) (ne_eqb x y ne))
-
--- ---- the flags, one test after the other
-
-module _ (s : List ℕ) (at : ℕ) where
-  abbrev plain : ℕ
-  plain = get_or s (at + message_plain_offset) 0
-
-  abbrev owner : ℕ
-  owner = get_or s (at + message_owner_offset) 0
-
-  abbrev cargo : ℕ
-  cargo = get_or s (at + data_offset) 0
-
-  abbrev dirty : ℕ
-  dirty = get_or s (at + message_dirty_offset) 0
-
-  -- an owner without data may go bare
-  abbrev bare : Bool
-  bare = sound_bare_owner owner dirty (get_or s (at + target_offset) 0)
-
-  abbrev rest : Bool
-  rest = leb dirty owner && eqb (get_or s (at + message_zero_offset) 0) 0
-
-  pub flags_bare : get_or s (at + data_offset) 0 < get_or s (at + message_owner_offset) 0
-      → sound_bare_owner (get_or s (at + message_owner_offset) 0) (get_or s (at + message_dirty_offset) 0) (get_or s (at + target_offset) 0) ≡ false → sound_flags s at ≡ false
-  flags_bare h e =
-      and_left ((leb owner cargo || bare) && ltb 0 (plain + owner)) rest
-      (and_left (leb owner cargo || bare) (ltb 0 (plain + owner)) (or_none (leb owner cargo) bare (lt-leb owner cargo h) e))
-
-  pub flags_none : get_or s (at + message_plain_offset) 0 + get_or s (at + message_owner_offset) 0 ≡ 0 → sound_flags s at ≡ false
-  flags_none h =
-      and_left ((leb owner cargo || bare) && ltb 0 (plain + owner)) rest
-      (and_right (leb owner cargo || bare) (ltb 0 (plain + owner)) (le-ltb 0 (plain + owner) (omega arith)))
-
-  -- both bytes behind data as one number
-  pub flags_rest : get_or s (at + message_owner_offset) 0 < 256
-      → (get_or s (at + data_offset) 0 < get_or s (at + message_owner_offset) 0
-      → sound_bare_owner (get_or s (at + message_owner_offset) 0) (get_or s (at + message_dirty_offset) 0) (get_or s (at + target_offset) 0) ≡ true)
-      → (get_or s (at + message_plain_offset) 0 + get_or s (at + message_owner_offset) 0 ≡ 0 → ⊥)
-      → leb (get_or s (at + message_dirty_offset) 0 + get_or s (at + message_zero_offset) 0 * 256) (get_or s (at + message_owner_offset) 0) ≡ sound_flags s at
-  flags_rest l h ne =
-      behind_data owner dirty (get_or s (at + message_zero_offset) 0) l
-      ∙ sym
-      (and_known ((leb owner cargo || bare) && ltb 0 (plain + owner)) rest
-      (and_of (leb owner cargo || bare) (ltb 0 (plain + owner))
-      (⊎_elim (λ (m : cargo < owner). or_right (leb owner cargo) bare (h m)) (λ (m : owner ≤ cargo). or_left (leb owner cargo) bare (le-leb owner cargo m)) (lt_or_le cargo owner))
-      (lt-ltb 0 (plain + owner) (omega arith))))
+-- ---- the whole message
 
 one_byte : (s : List ℕ) (i : ℕ) → all_below 1 (λ j. eqb (get_or s (i + j) 0) 0) ≡ eqb (get_or s i 0) 0
 unfolding all_below
@@ -135,10 +78,7 @@ one_byte s i = and_true (eqb (get_or s (i + 0) 0) 0) ∙ ap (λ (m : ℕ). eqb (
 
 module _ (s : List ℕ) (at : ℕ) (n b : ℕ) where
   -- the tests in the order of the code: the ends, the flags, and data with the words
-  abbrev words_fine : Bool
-  words_fine = ltb (get_or s (at + data_offset) 0) 2 && implies (not (eqb (get_or s (at + data_offset) 0) 1)) (all (eqb 0) (words.read (slice (at + message_words_offset) words_size s)))
-
-  message_tests : sound_message_at n b s at ≡ (endpoints_known n b s at && (sound_flags s at && words_fine))
+  pub message_tests : sound_message_at n b s at ≡ (endpoints_known n b s at && (sound_flags s at && words_sound s at))
   unfolding sound_message_at
   message_tests =
       let x : ℕ = get_or s at 0 in
@@ -169,6 +109,8 @@ module _ (s : List ℕ) (at : ℕ) (n b : ℕ) where
       ∙ message_order (ltb o 2) (ltb v 2) (leb d o) z e w (leb x n) (leb y n) (not (eqb x y)) (ltb k b) (ltb 0 (p + o)) u
       (eq-eqb (length ws) 8 (words_eight (slice (at + message_words_offset) words_size s)))
       (λ t q. lt-ltb o 2 (owner_low o v d y t (ltb-true v 2 q)))
+      ∙ ap (λ (r : Bool). endpoints_known n b s at && ((u && ltb 0 (p + o) && (leb d o && z)) && r))
+      (ap (λ (r : Bool). ltb v 2 && implies (not (eqb v 1)) r) (words_zero s (at + message_words_offset)) ∙ words_test v (all_below words_size (λ i. eqb (get_or s (at + message_words_offset + i) 0) 0)))
     where
       -- the conjuncts of a message in the order of the code; that the owner is 0 or 1 follows from the others
       message_order : (o v d z e w x y a k t u : Bool) → e ≡ true → (u ≡ true → v ≡ true → o ≡ true)
@@ -188,31 +130,7 @@ module _ (s : List ℕ) (at : ℕ) (n b : ℕ) where
           (and_of _ _ (and_of _ _ (and_of _ _ (and_of _ _ (and_of _ _ (and_of _ _ (and_of e w h (search (and_l, and_r) depth 13)) (search (and_l, and_r) depth 13))
           (search (and_l, and_r) depth 13)) (search (and_l, and_r) depth 13)) (search (and_l, and_r) depth 13)) (search (and_l, and_r) depth 13)) su))
 
-  pub message_ends : endpoints_known n b s at ≡ false → sound_message_at n b s at ≡ false
-  message_ends h = message_tests ∙ and_left (endpoints_known n b s at) (sound_flags s at && words_fine) h
-
-  pub message_carried : sound_flags s at ≡ false → sound_message_at n b s at ≡ false
-  message_carried h = message_tests ∙ and_right (endpoints_known n b s at) (sound_flags s at && words_fine) (and_left (sound_flags s at) words_fine h)
-
-  module _ (ends : endpoints_known n b s at ≡ true) (carried : sound_flags s at ≡ true) where
-    message_words : sound_message_at n b s at ≡ words_fine
-    message_words = message_tests ∙ and_known (endpoints_known n b s at) (sound_flags s at && words_fine) ends ∙ and_known (sound_flags s at) words_fine carried
-
-    -- with data the words are free
-    pub message_full : get_or s (at + data_offset) 0 ≡ 1 → sound_message_at n b s at ≡ true
-    message_full h =
-        message_words ∙ ap (λ (d : ℕ). ltb d 2 && implies (not (eqb d 1)) (all (eqb 0) (words.read (slice (at + message_words_offset) words_size s)))) h
-
-    pub message_other : (get_or s (at + data_offset) 0 ≡ 1 → ⊥) → (get_or s (at + data_offset) 0 ≡ 0 → ⊥) → sound_message_at n b s at ≡ false
-    message_other h k =
-        message_words
-        ∙ and_left (ltb (get_or s (at + data_offset) 0) 2) (implies (not (eqb (get_or s (at + data_offset) 0) 1)) (all (eqb 0) (words.read (slice (at + message_words_offset) words_size s)))) (le-ltb (get_or s (at + data_offset) 0) 2 (omega arith))
-
-    pub message_bare : get_or s (at + data_offset) 0 ≡ 0 → sound_message_at n b s at ≡ all (eqb 0) (words.read (slice (at + message_words_offset) words_size s))
-    message_bare h =
-        message_words ∙ ap (λ (d : ℕ). ltb d 2 && implies (not (eqb d 1)) (all (eqb 0) (words.read (slice (at + message_words_offset) words_size s)))) h
-
   pub message_block : sound_message_at n b s at ≡ true → get_or s (at + message_block_offset) 0 < b
   message_block h =
-      let q : (endpoints_known n b s at && (sound_flags s at && words_fine)) ≡ true = sym message_tests ∙ h in
+      let q : (endpoints_known n b s at && (sound_flags s at && words_sound s at)) ≡ true = sym message_tests ∙ h in
       ltb-true (get_or s (at + message_block_offset) 0) b (search (and_l, and_r) depth 8)

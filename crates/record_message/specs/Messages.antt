@@ -1,8 +1,9 @@
 -- Document 01, "Sound means", with document 02, No. 2, of each message by itself, as it is decided by its bytes.
 use Rattle.std.specs.Prelude.{ℕ, ◌+◌, ◌*◌, Bool, not, ◌&&◌, ◌||◌, List, get_or, eqb, leb, ltb}
+use Rattle.spec_base.specs.Folds.{all_below}
 use Rattle.spec_base.specs.Layout.{slice}
 use Rattle.spec_rack.specs.Soundness.{sound_message}
-use Rattle.spec_rack.specs.RecordLayout.{message_size, message, data_offset, message_block_offset, message_dirty_offset, message_owner_offset, message_plain_offset, message_zero_offset, target_offset}
+use Rattle.spec_rack.specs.RecordLayout.{message_size, message, data_offset, message_block_offset, message_dirty_offset, message_owner_offset, message_plain_offset, message_words_offset, message_zero_offset, target_offset, words_size}
 
 -- plain tokens in the low 16 bits and owners above them, so that one sum counts both: of a message's bytes at a place
 abbrev pub token_sum_at : List ℕ → ℕ → ℕ
@@ -26,6 +27,12 @@ sound_flags s at =
     (leb owner (get_or s (at + data_offset) 0) || sound_bare_owner owner dirty (get_or s (at + target_offset) 0))
     && ltb 0 (get_or s (at + message_plain_offset) 0 + owner)
     && (leb dirty owner && eqb (get_or s (at + message_zero_offset) 0) 0)
+
+-- its data mark is 0 or 1, and without data its words are 0
+abbrev pub words_sound : List ℕ → ℕ → Bool
+words_sound s at =
+    let mark = get_or s (at + data_offset) 0 in
+    eqb mark 1 || (eqb mark 0 && all_below words_size (λ i. eqb (get_or s (at + message_words_offset + i) 0) 0))
 
 -- the whole message is as the layout has it, and sound
 unfoldable pub sound_message_at : ℕ → ℕ → List ℕ → ℕ → Bool
