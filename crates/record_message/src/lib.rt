@@ -5,11 +5,11 @@ ghost use Rattle.std.specs.Prelude.{◌≡◌, ◌+◌, ◌≤◌, length};
 ghost use Rattle.spec_rack.specs.RecordLayout.{message_size};
 ghost use Rattle.record_message.specs.Messages.{token_sum_at, endpoints_known, sound_bare_owner, sound_flags, words_sound, sound_message_at};
 
-use base::all_zero;
+use base::is_zero;
 use spec_rack::{
     DATA_OFFSET, MESSAGE_BLOCK_OFFSET, MESSAGE_DIRTY_OFFSET, MESSAGE_OWNER_OFFSET,
-    MESSAGE_PLAIN_OFFSET, MESSAGE_WORDS_OFFSET, MESSAGE_ZERO_OFFSET, SENDER_OFFSET, TARGET_OFFSET,
-    WORDS_SIZE,
+    MESSAGE_PLAIN_OFFSET, MESSAGE_SIZE, MESSAGE_WORDS_OFFSET, MESSAGE_ZERO_OFFSET, SENDER_OFFSET,
+    TARGET_OFFSET,
 };
 
 // Plain tokens in the low 16 bits and owners above them, so that one sum counts both: of the two bytes at `at`.
@@ -62,7 +62,7 @@ fn words_sound(rec: &[u8], at: usize) -> bool
     ensures { result ≡ words_sound rec.now at }
 {
     match rec[at + DATA_OFFSET] {
-        0 => all_zero(rec, at + MESSAGE_WORDS_OFFSET, WORDS_SIZE),
+        0 => is_zero(&rec[at + MESSAGE_WORDS_OFFSET..at + MESSAGE_SIZE]),
         1 => true,
         _ => false,
     }
