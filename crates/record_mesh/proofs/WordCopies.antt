@@ -30,6 +30,14 @@ words_copied u t h lu lt =
     words_full.fills (words.read u) (words_lawful.holds u h) t u (lt ∙ sym words_size_lem) (lu ∙ sym words_size_lem)
     ∙ words_lawful.unchanged u stands
 
+-- both places are in the record, the message in front of the cell
+module _ (s : List ℕ) (i b c : ℕ) (pre : CellInRecord s b c × (i < messages_in s)) where
+  pub room_to : cell_words_offset b c + words_size ≤ length s
+  room_to = omega (arith, pre.0.whole.room, pre.0.whole.boards, pre.0.block, pre.0.component)
+
+  pub room_from : message_offset i + message_words_offset + words_size ≤ cell_words_offset b c
+  room_from = omega (arith, pre.0.whole.messages, pre.1)
+
 module _ (s : List ℕ) (bytes : Bytes s) (i b c : ℕ) (pre : CellInRecord s b c × (i < messages_in s)) where
   abbrev pub from : ℕ
   from = message_offset i + message_words_offset
@@ -40,21 +48,14 @@ module _ (s : List ℕ) (bytes : Bytes s) (i b c : ℕ) (pre : CellInRecord s b 
   ok : Formed s
   ok = well_formed s bytes pre.0.whole
 
-  -- both places are in the record, the message in front of the cell
-  pub room_to : cell_words_offset b c + words_size ≤ length s
-  room_to = omega (arith, pre.0.whole.room, pre.0.whole.boards, pre.0.block, pre.0.component)
-
-  pub room_from : message_offset i + message_words_offset + words_size ≤ cell_words_offset b c
-  room_from = omega (arith, pre.0.whole.messages, pre.1)
-
   message_words : (message_at (get s) i).words ≡ words.read (slice from words_size s)
   message_words = ap (λ (m : Message). m.words) (message_at_lem s ok i pre.1 ∙ message_read s (message_offset i))
 
   length_from : length (slice from words_size s) ≡ words_size
-  length_from = length_part from words_size s (omega (arith, room_from, room_to))
+  length_from = length_part from words_size s (omega (arith, room_from s i b c pre, room_to s i b c pre))
 
   length_to : length (slice to words_size s) ≡ words_size
-  length_to = length_part to words_size s room_to
+  length_to = length_part to words_size s (room_to s i b c pre)
 
   same : length (slice from words_size s) ≡ length (slice to words_size s)
   same = length_from ∙ sym length_to
@@ -68,7 +69,7 @@ module _ (s : List ℕ) (bytes : Bytes s) (i b c : ℕ) (pre : CellInRecord s b 
       ∙ words_copied (slice from words_size s) (slice to words_size s) (bytes_take words_size (drop from s) (bytes_drop from s bytes)) length_from length_to))
 
   same_front : take to (copied s from to words_size) ≡ take to s
-  same_front = cut_first to words_size (take to s) (slice from words_size s) s refl same room_to
+  same_front = cut_first to words_size (take to s) (slice from words_size s) s refl same (room_to s i b c pre)
 
   -- a byte of the header
   same_byte : (k : ℕ) → k < 4 → get_or (copied s from to words_size) k 0 ≡ get_or s k 0
@@ -82,9 +83,9 @@ module _ (s : List ℕ) (bytes : Bytes s) (i b c : ℕ) (pre : CellInRecord s b 
         words =
             words_look (copied s from to words_size) b c (omega (arith, w.boards, same_byte 0 (omega arith))) (omega (arith, w.messages, same_byte 3 (omega arith)))
             (omega (arith, pre.0.block, same_byte 1 (omega arith))) (omega (arith, pre.0.component, same_byte 0 (omega arith)))
-            ∙ ap words.read (cut_second to words_size (take to s) (slice from words_size s) s refl same room_to)
+            ∙ ap words.read (cut_second to words_size (take to s) (slice from words_size s) s refl same (room_to s i b c pre))
             ∙ sym message_words;
         same_length = cuts_length to words_size (take to s) (slice from words_size s) s refl same;
         front = same_front;
-        rest = cut_rest to words_size (take to s) (slice from words_size s) s refl same room_to;
+        rest = cut_rest to words_size (take to s) (slice from words_size s) s refl same (room_to s i b c pre);
       }

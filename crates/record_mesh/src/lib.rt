@@ -1,8 +1,5 @@
 // The mesh in the record: the messages in flight, oldest first.
-// order: bytes, lib
 #![tactic(auto)]
-
-pub mod bytes;
 
 ghost use Rattle.std.specs.Prelude.{◌≡◌, [], ◌∷◌, ◌++◌, ◌+◌, ◌*◌, ◌≤◌, ◌<◌, length};
 ghost use Rattle.spec_base.specs.Folds.{remove_at};
@@ -13,15 +10,18 @@ ghost use Rattle.spec_rack.specs.WordCopy.{WordsCopied};
 ghost use Rattle.record.specs.Needs.{InLayout, CellInRecord};
 ghost use Rattle.record.specs.Changes.{with_words, replace_cell, with_mesh};
 
-use base::byte_at;
 use record::{TokenState, cells, owner, tokens, words};
-use spec_rack::{DATA_OFFSET, HEADER_SIZE, MESSAGE_BLOCK_OFFSET, MESSAGE_COUNT_OFFSET, MESSAGE_DIRTY_OFFSET, MESSAGE_OWNER_OFFSET, MESSAGE_PLAIN_OFFSET, MESSAGE_SIZE, MESSAGE_WORDS_OFFSET, MESSAGE_ZERO_OFFSET, Message, MessageHeader, SENDER_OFFSET, TARGET_OFFSET, WORDS_SIZE};
+use spec_rack::{
+    DATA_OFFSET, HEADER_SIZE, MESSAGE_BLOCK_OFFSET, MESSAGE_COUNT_OFFSET, MESSAGE_DIRTY_OFFSET,
+    MESSAGE_OWNER_OFFSET, MESSAGE_PLAIN_OFFSET, MESSAGE_SIZE, MESSAGE_WORDS_OFFSET,
+    MESSAGE_ZERO_OFFSET, Message, MessageHeader, SENDER_OFFSET, TARGET_OFFSET, WORDS_SIZE,
+};
 
 // The offset of the message at a position.
 pub fn message_offset(position: u8) -> usize
     ensures { result ≡ message_offset position }
 {
-    HEADER_SIZE + MESSAGE_SIZE * (position as usize)
+    HEADER_SIZE + MESSAGE_SIZE * usize::from(position)
 }
 
 // The header of the message at a position.
@@ -31,19 +31,20 @@ pub fn header_at(rec: &[u8], position: u8) -> MessageHeader
 {
     let at = message_offset(position);
     MessageHeader {
-        sender: byte_at(rec, at, SENDER_OFFSET),
-        target: byte_at(rec, at, TARGET_OFFSET),
-        block: byte_at(rec, at, MESSAGE_BLOCK_OFFSET),
-        plain: byte_at(rec, at, MESSAGE_PLAIN_OFFSET),
+        sender: rec[at + SENDER_OFFSET],
+        target: rec[at + TARGET_OFFSET],
+        block: rec[at + MESSAGE_BLOCK_OFFSET],
+        plain: rec[at + MESSAGE_PLAIN_OFFSET],
         owner: owner::owner_of(
-            byte_at(rec, at, MESSAGE_OWNER_OFFSET) == 1,
-            byte_at(rec, at, MESSAGE_DIRTY_OFFSET) == 1,
+            rec[at + MESSAGE_OWNER_OFFSET] == 1,
+            rec[at + MESSAGE_DIRTY_OFFSET] == 1,
         ),
-        data: byte_at(rec, at, DATA_OFFSET) == 1,
+        data: rec[at + DATA_OFFSET] == 1,
     }
 }
 
-// Copies the words of the message at a position to a component's words: each byte is read once and written once.
+// Copies the words of the message at a position to a component's words, which stand behind the mesh: each byte is read once and written once.
+// `copy_within` does the same byte by byte, since it begins with the last.
 pub fn copy_words(rec: &mut [u8], position: u8, block: u8, component: u8)
     requires { CellInRecord rec.old block component × (position < messages_in rec.old) }
     ensures bytes { rec.new ≡ modify_at (cell_words_offset block component) words_size (λ t. slice (message_offset position + message_words_offset) words_size rec.old) rec.old }
@@ -52,7 +53,8 @@ pub fn copy_words(rec: &mut [u8], position: u8, block: u8, component: u8)
 {
     let from = message_offset(position) + MESSAGE_WORDS_OFFSET;
     let to = cells::words_offset(block, component);
-    bytes::copy_bytes(rec, from, to, WORDS_SIZE);
+    let (mesh, cells) = rec.split_at_mut(to);
+    cells[..WORDS_SIZE].copy_from_slice(&mesh[from..from + WORDS_SIZE]);
 }
 
 // Writes a message at `at`.
@@ -61,22 +63,17 @@ fn put_message(s: &mut [u8], at: usize, m: Message)
     ensures { s.new ≡ modify_at at message_size (message.write m) s.old }
 {
     let header = m.header;
-    let token = header.owner;
-    let values = m.words;
     s[at] = header.sender;
     s[at + TARGET_OFFSET] = header.target;
     s[at + MESSAGE_BLOCK_OFFSET] = header.block;
-    tokens::put_token_state(
-        s,
-        at + MESSAGE_PLAIN_OFFSET,
-        TokenState {
-            plain: header.plain,
-            owner: token,
-            valid: header.data,
-        },
-    );
+    let state = TokenState {
+        plain: header.plain,
+        owner: header.owner,
+        valid: header.data,
+    };
+    tokens::put_tokens::<1>(s, at + MESSAGE_PLAIN_OFFSET, state);
     s[at + MESSAGE_ZERO_OFFSET] = 0;
-    words::put_words(s, at + MESSAGE_WORDS_OFFSET, values);
+    words::put_words(s, at + MESSAGE_WORDS_OFFSET, m.words);
 }
 
 // One message more, as the newest.
@@ -99,7 +96,9 @@ pub fn remove(rec: &mut [u8], position: u8)
     let left = count - 1;
     let behind = left - position;
     let at = message_offset(position);
-    let size = MESSAGE_SIZE * (behind as usize);
-    bytes::copy_bytes(rec, at + MESSAGE_SIZE, at, size);
+    let from = at + MESSAGE_SIZE;
+    let size = MESSAGE_SIZE * usize::from(behind);
+    // From a length the compiler makes one memmove, and from the end of the last message a loop.
+    rec.copy_within(from..from + size, at);
     rec[MESSAGE_COUNT_OFFSET] = left;
 }

@@ -1,31 +1,31 @@
 -- `record_mesh::header_at` meets its contract: the header as its bytes have it.
-use Prim.Native.Nat.{ℕ}
+use Prim.Native.Nat.{ℕ, ◌+◌}
 use native.Mathlib.Nat.{add-zero}
 use lib.ListN.{get_or}
 use lib.Dec.{eqb}
+use mathlib.Core.List.{List}
 use mathlib.Core.Path.{sym, ap, ◌∙◌}
 use Rattle.record.proofs.FieldAccess.{well_formed}
 use Rattle.record.proofs.FieldBytes.{message_read}
 use Rattle.record.proofs.FieldOffsets.{message_at_lem}
 use Rattle.spec_base.specs.Layout.{slice}
 use Rattle.spec_rack.specs.declared.Message.{Message}
-use Rattle.spec_rack.specs.RecordLayout.{message_size, owner_of, message}
+use Rattle.spec_rack.specs.RecordLayout.{target_offset, message_block_offset, message_plain_offset, data_offset, message_size, message}
 use Rattle.record_mesh.proofs.header_at.Goals as goal
 
 pub returns : goal.returns
-returns c = (λ i. record {
-  sender = (c.byte_at.ensures ∙ ap (λ k. get_or c.args.rec.now k 0) (add-zero c.message_offset-at.result)) i;
-  target = c.byte_at-2.ensures i;
-  block = c.byte_at-3.ensures i;
-  plain = c.byte_at-4.ensures i;
-  owner =
-      (c.owner_of.ensures
-      ∙ (λ j. owner_of (eqb (c.byte_at-5.ensures j) 1) (eqb (c.byte_at-6.ensures j) 1))) i;
-  «data» = eqb (c.byte_at-7.ensures i) 1;
-})
+returns c =
+    let rec : List ℕ = c.args.rec.now in
+    let at : ℕ = c.message_offset-at.result in
+    (λ i. record {
+      sender = get_or rec (add-zero at i) 0;
+      target = get_or rec (at + target_offset) 0;
+      block = get_or rec (at + message_block_offset) 0;
+      plain = get_or rec (at + message_plain_offset) 0;
+      owner = c.owner_of.ensures i;
+      «data» = eqb (get_or rec (at + data_offset) 0) 1;
+    })
     ∙ ap (λ (m : Message). m.header)
-    (sym (message_read c.args.rec.now c.message_offset-at.result)
-    ∙ ap (λ (k : ℕ). message.read (slice k message_size c.args.rec.now)) c.message_offset-at.ensures
-    ∙ sym
-    (message_at_lem c.args.rec.now (well_formed c.args.rec.now (λ k. (c.shared_slice_known-1.given k).fits) c.requires.0) c.args.position
-    c.requires.1))
+    (sym (message_read rec at)
+    ∙ ap (λ (k : ℕ). message.read (slice k message_size rec)) c.message_offset-at.ensures
+    ∙ sym (message_at_lem rec (well_formed rec (λ k. (c.type_inv.rec k).fits) c.requires.0) c.args.position c.requires.1))
