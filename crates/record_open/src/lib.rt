@@ -1,61 +1,72 @@
 // An opening: the fresh record, written over the front of a lent buffer.
 #![tactic(auto)]
 
-ghost use Rattle.std.specs.Prelude.{◌≡◌, ◌+◌, ◌≤◌, ◌<◌, length, replicate};
-ghost use Rattle.spec_base.specs.Layout.{modify_at};
+ghost use Rattle.std.specs.Prelude.{◌≡◌, ◌≤◌, true, false, length, MatchOption};
 ghost use Rattle.spec_rack.specs.Rack.{fresh_block, fresh};
+ghost use Rattle.spec_rack.specs.Soundness.{sizes};
 ghost use Rattle.spec_rack.specs.RecordLayout.{block_size, record_length, block, put};
 ghost use Rattle.spec_rack.specs.Opening.{open_reply, open_after};
 
 use base::numbers::put_u32;
 use record::sizes;
-use spec_rack::{Answer, BLOCK_COUNT_OFFSET, BLOCK_SIZE, BLOCKS_OFFSET, BOARD_COUNT_OFFSET, CLAIMS_OFFSET, CLAIMS_SIZE, FORMAT_MAGIC, FORMAT_OFFSET, LANES_SIZE, MESSAGE_COUNT_OFFSET, OWNER_OFFSET, TOKEN_COUNT_OFFSET, VALID_OFFSET, WORDS_OFFSET, WORDS_SIZE};
+use spec_rack::{
+    Answer, BLOCK_COUNT_OFFSET, BLOCK_SIZE, BLOCKS_OFFSET, BOARD_COUNT_OFFSET, CLAIMS_OFFSET,
+    CLAIMS_SIZE, FORMAT_MAGIC, FORMAT_OFFSET, LANES_SIZE, MESSAGE_COUNT_OFFSET, OWNER_OFFSET,
+    TOKEN_COUNT_OFFSET, VALID_OFFSET, WORDS_OFFSET, WORDS_SIZE,
+};
 use spec_wire::Refusal;
 
-// Makes `count` bytes from `at` on 0.
-fn zero_fill(s: &mut [u8], at: usize, count: usize)
-    requires { at + count ≤ length s.old }
-    ensures { s.new ≡ modify_at at count (λ t. replicate count 0) s.old }
-{
-    let mut i: usize = 0;
-    while i < count {
-        s[at + i] = 0;
-        i += 1;
+// The sizes of a rack, in range: N boards, B blocks, T tokens to a block.
+#[derive(Clone, Copy)]
+struct Sizes {
+    boards: u8,
+    blocks: u8,
+    tokens: u8,
+    ghost in_range: { sizes boards blocks tokens ≡ true },
+}
+
+impl Sizes {
+    fn new(boards: u32, blocks: u32, tokens: u32) -> Option<Sizes>
+        ensures { MatchOption result (sizes boards blocks tokens ≡ false) (λ s. (s.boards ≡ boards) × (s.blocks ≡ blocks) × (s.tokens ≡ tokens)) }
+    {
+        if !sizes::in_range(boards, blocks, tokens) {
+            return None;
+        }
+        Some(Sizes {
+            boards: boards as u8,
+            blocks: blocks as u8,
+            tokens: tokens as u8,
+        })
     }
 }
 
-// Writes the fresh block at `at`: home holds all tokens, valid; the owner is clean, so its mark stays 0.
-fn open_block(rec: &mut [u8], at: usize, boards: u32, tokens: u32)
-    requires { (boards < 16) × (1 ≤ tokens) × (tokens ≤ 64) × (at + block_size ≤ length rec.old) }
-    ensures { rec.new ≡ modify_at at block_size ((block boards).write (fresh_block boards tokens)) rec.old }
+// Writes the fresh block: home holds all tokens, valid; the owner is clean, so its mark stays 0.
+fn open_block(bytes: &mut [u8], sizes: Sizes)
+    requires { length bytes.old ≡ block_size }
+    ensures { bytes.new ≡ (block sizes.boards).write (fresh_block sizes.boards sizes.tokens) bytes.old }
 {
-    let words = WORDS_SIZE * (boards as usize + 1);
-    let sets = at + CLAIMS_OFFSET;
-    let behind = at + WORDS_OFFSET;
-    zero_fill(rec, at, LANES_SIZE);
-    zero_fill(rec, sets, CLAIMS_SIZE);
-    zero_fill(rec, behind, words);
-    rec[at] = (tokens - 1) as u8;
-    rec[at + OWNER_OFFSET] = 1;
-    rec[at + VALID_OFFSET] = 1;
+    let words = WORDS_SIZE * (usize::from(sizes.boards) + 1);
+    bytes[..LANES_SIZE].fill(0);
+    bytes[CLAIMS_OFFSET..CLAIMS_OFFSET + CLAIMS_SIZE].fill(0);
+    bytes[WORDS_OFFSET..WORDS_OFFSET + words].fill(0);
+    bytes[0] = sizes.tokens - 1;
+    bytes[OWNER_OFFSET] = 1;
+    bytes[VALID_OFFSET] = 1;
 }
 
 // Writes the fresh record.
-fn write_fresh(rec: &mut [u8], boards: u32, blocks: u32, tokens: u32)
-    requires { (boards < 16) × (1 ≤ tokens) × (tokens ≤ 64) × (blocks ≤ 32) × (record_length blocks ≤ length rec.old) }
-    ensures { rec.new ≡ put (fresh boards blocks tokens) rec.old }
+fn write_fresh(rec: &mut [u8], sizes: Sizes)
+    requires { record_length sizes.blocks ≤ length rec.old }
+    ensures { rec.new ≡ put (fresh sizes.boards sizes.blocks sizes.tokens) rec.old }
 {
     put_u32(rec, FORMAT_OFFSET, FORMAT_MAGIC);
-    rec[BOARD_COUNT_OFFSET] = boards as u8;
-    rec[BLOCK_COUNT_OFFSET] = blocks as u8;
-    rec[TOKEN_COUNT_OFFSET] = tokens as u8;
+    rec[BOARD_COUNT_OFFSET] = sizes.boards;
+    rec[BLOCK_COUNT_OFFSET] = sizes.blocks;
+    rec[TOKEN_COUNT_OFFSET] = sizes.tokens;
     rec[MESSAGE_COUNT_OFFSET] = 0;
-    let count = blocks as usize;
-    let mut b: usize = 0;
-    while b < count {
+    for b in 0..usize::from(sizes.blocks) {
         let at = BLOCKS_OFFSET + BLOCK_SIZE * b;
-        open_block(rec, at, boards, tokens);
-        b += 1;
+        open_block(&mut rec[at..at + BLOCK_SIZE], sizes);
     }
 }
 
@@ -64,12 +75,12 @@ pub fn open(rec: &mut [u8], boards: u32, blocks: u32, tokens: u32) -> Result<Ans
     ensures reply { result ≡ open_reply boards blocks tokens rec.old }
     ensures buffer { rec.new ≡ open_after boards blocks tokens rec.old }
 {
-    if !sizes::in_range(boards, blocks, tokens) {
+    let Some(sizes) = Sizes::new(boards, blocks, tokens) else {
         return Err(Refusal::Size);
-    }
-    if rec.len() < BLOCKS_OFFSET + BLOCK_SIZE * (blocks as usize) {
+    };
+    if rec.len() < BLOCKS_OFFSET + BLOCK_SIZE * usize::from(sizes.blocks) {
         return Err(Refusal::ShortBuffer);
     }
-    write_fresh(rec, boards, blocks, tokens);
+    write_fresh(rec, sizes);
     Ok(Answer::Done)
 }
