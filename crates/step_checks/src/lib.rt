@@ -1,4 +1,6 @@
-// The refusal table's conditions, evaluated on the record's bytes.
+// The refusal table's conditions, evaluated on the record's bytes. `InLayout` and `SoundRecord` stay clauses, here and in the steps: a struct around the lent
+// slice owes its fact at each write (tried), and between a send's tokens and its message the record is not sound. `component` and `block` stay two numbers:
+// a Step has them apart, and so have the clauses.
 #![tactic(auto)]
 
 ghost use Rattle.std.specs.Prelude.{◌≡◌, ◌||◌, not, ◌+◌, ◌*◌, ◌<◌, eqb, ltb, get_or};

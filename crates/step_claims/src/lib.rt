@@ -1,4 +1,5 @@
-// Raise and lower: their lines of the refusal table, and what they make of the claims on a block where they pass.
+// Raise and lower: their lines of the refusal table, and what they make of the claims on a block where they pass. One function for both would take the check
+// and the change as closures, with a clause on each: no plainer than these lines.
 #![tactic(auto)]
 
 ghost use Rattle.std.specs.Prelude.{◌≡◌};
