@@ -1,1 +1,1 @@
-pub mod StepOnBytes
+pub mod ReadyForStep
