@@ -4,7 +4,7 @@ use mir.Val.{Fits}
 use mir.Syntax.{w8}
 use mathlib.Core.Bool.{Bool, true, false, cond}
 use mathlib.Core.List.{List}
-use Prim.Native.Nat.{ℕ, ◌+◌, ◌<◌}
+use Prim.Native.Nat.{ℕ, ◌+◌, ◌≤◌, ◌<◌}
 use native.Mathlib.Omega.{arith}
 use lib.ListN.{length, get_or}
 use Rattle.spec_base.specs.Folds.{remove_at}
@@ -65,7 +65,14 @@ served_is s i h pre e = accepted_is s (Deliver i) (sym pre.1) (ap (λ (k : Messa
 
 -- ---- the target
 
-module _ (s : List ℕ) (bytes : Bytes s) (i : ℕ) (h : MessageHeader) (can : CanFill s i h) where
+-- after the words: the target can be written, its words are those that the message leaves there, and a cell written there covers the copy
+pub record AfterWords (s : List ℕ) (i : ℕ) (h : MessageHeader) (s₁ : List ℕ) : Type 0 where
+  pub in_cell : CellInRecord s₁ h.block h.target
+  pub cell : cell_at (get s₁) h.block h.target
+      ≡ with_words (cell_at (get s) h.block h.target) (cond h.«data» (message_at (get s) i).words (cell_at (get s) h.block h.target).words)
+  pub covered : (y : Cell) → CellFits y → (s₂ : List ℕ) → s₂ ≡ put (replace_cell (get s₁) h.block h.target y) s₁ → s₂ ≡ put (replace_cell (get s) h.block h.target y) s
+
+module _ {s : List ℕ} {i : ℕ} {h : MessageHeader} (can : CanFill s i h) where
   abbrev m : Message
   m = message_at (get s) i
 
@@ -81,48 +88,16 @@ module _ (s : List ℕ) (bytes : Bytes s) (i : ℕ) (h : MessageHeader) (can : C
   in_b : h.block < length (get s).blocks
   in_b = omega (arith, blocks_is s, can.target.block)
 
-  x_fits : CellFits (cell_at (get s) h.block h.target)
-  x_fits = cell_fits (get s) (fits s bytes can.sound) h.block in_b h.target (omega (arith, boards_is s, can.target.component))
-
-  m_fits : MessageFits (message_at (get s) i)
-  m_fits = message_fits (get s) (fits s bytes can.sound) i in_mesh
+  on_c : h.target ≤ (get s).boards
+  on_c = omega (arith, boards_is s, can.target.component)
 
   -- two counts of a sound rack fit a byte together
-  sum_fits : (cell_at (get s) h.block h.target).plain + (message_at (get s) i).header.plain < 256
-  sum_fits =
-      omega (arith, cell_few (get s) sound h.block h.target in_b (omega (arith, boards_is s, can.target.component)), message_few (get s) sound i in_mesh)
+  sum_fits : x.plain + m.header.plain < 256
+  sum_fits = omega (arith, cell_few (get s) sound h.block h.target in_b on_c, message_few (get s) sound i in_mesh)
 
-  filled_fits : CellFits (with_tokens (cell_at (get s) h.block h.target) (message_at (get s) i))
-  filled_fits = ((sum_fits, (tt, tt)), cond_of WordsFit m.header.«data» m.words x.words m_fits.1 x_fits.1)
-
-  -- after the words: the target can be written, its words are those that the message leaves there, and a cell written there covers the copy
-  pub record AfterWords (s₁ : List ℕ) : Type 0 where
-    pub in_cell : CellInRecord s₁ h.block h.target
-    pub cell : cell_at (get s₁) h.block h.target
-        ≡ with_words (cell_at (get s) h.block h.target) (cond h.«data» (message_at (get s) i).words (cell_at (get s) h.block h.target).words)
-    pub covered : (y : Cell) → CellFits y → (s₂ : List ℕ) → s₂ ≡ put (replace_cell (get s₁) h.block h.target y) s₁ → s₂ ≡ put (replace_cell (get s) h.block h.target y) s
-
-  pub after_copy : h.«data» ≡ true → (copied s₁ : List ℕ)
-      → copied ≡ put (replace_cell (get s) h.block h.target (with_words (cell_at (get s) h.block h.target) (message_at (get s) i).words)) s → s₁ ≡ copied → AfterWords s₁
-  after_copy d copied s₁ copies same =
-      let is = same ∙ copies in
-      let y : Cell = with_words x m.words in
-      record {
-        in_cell = cell_in_cell s bytes can.sound h.block h.target can.target y (x_fits.0, m_fits.1) s₁ is h.block h.target can.target;
-        cell =
-            cell_there s bytes can.sound h.block h.target can.target y (x_fits.0, m_fits.1) s₁ is
-            ∙ ap (λ (t : Bool). with_words x (cond t m.words x.words)) (sym d);
-        covered = cell_cell s bytes can.sound h.block h.target can.target y (x_fits.0, m_fits.1) s₁ is;
-      }
-
-  pub without_copy : h.«data» ≡ false → (s₁ : List ℕ) → s₁ ≡ s → AfterWords s₁
-  without_copy d s₁ is =
-      subst AfterWords (sym is)
-      (record { in_cell = can.target; cell = ap (λ (t : Bool). with_words x (cond t m.words x.words)) (sym d); covered = λ y fy s₂ is'. is' })
-
-  module _ (s₁ : List ℕ) (after : AfterWords s₁) (state : TokenState) (told : TokenStateOf (cell_at (get s₁) h.block h.target) state) where
+  module _ {s₁ : List ℕ} (after : AfterWords s i h s₁) {state : TokenState} (told : TokenStateOf (cell_at (get s₁) h.block h.target) state) where
     -- the tokens are still those of before
-    told_before : TokenStateOf (cell_at (get s) h.block h.target) state
+    told_before : TokenStateOf x state
     told_before =
         let same = subst (λ (y : Cell). TokenStateOf y state) after.cell told in
         record { plain = same.plain; owner = same.owner; valid = same.valid }
@@ -140,54 +115,83 @@ module _ (s : List ℕ) (bytes : Bytes s) (i : ℕ) (h : MessageHeader) (can : C
     lone o =
         let at_block = ap (λ (k : MessageHeader). (cell_at (get s) k.block h.target).owner) can.header in
         told_before.owner ∙ at_block
-        ∙ owner_in_flight (get s) sound i in_mesh (sym (ap (λ (k : MessageHeader). present k.owner) can.header) ∙ o) h.target
-        (omega (arith, boards_is s, can.target.component))
+        ∙ owner_in_flight (get s) sound i in_mesh (sym (ap (λ (k : MessageHeader). present k.owner) can.header) ∙ o) h.target on_c
 
-    pub tokens_filled : (sum : TokenState) → ((y : Cell) (n : Message) → TokenStateOf y state → h ≡ n.header → TokenStateOf (with_tokens y n) sum)
-        → (s₂ : List ℕ) → s₂ ≡ put (replace_cell (get s₁) h.block h.target (with_token_state (cell_at (get s₁) h.block h.target) sum)) s₁ → s₂ ≡ put (replace_cell (get s) h.block h.target (with_tokens (cell_at (get s) h.block h.target) (message_at (get s) i))) s
-    tokens_filled sum adds s₂ is =
+  pub without_copy : h.«data» ≡ false → (s₁ : List ℕ) → s₁ ≡ s → AfterWords s i h s₁
+  without_copy d s₁ is =
+      subst (AfterWords s i h) (sym is)
+      (record { in_cell = can.target; cell = ap (λ (t : Bool). with_words x (cond t m.words x.words)) (sym d); covered = λ y fy s₂ is'. is' })
+
+  -- ---- of bytes
+
+  module _ (known : (k : ℕ) → Fits w8 (get_or s k 0)) where
+    bytes : Bytes s
+    bytes = λ k. (known k).fits
+
+    x_fits : CellFits x
+    x_fits = cell_fits (get s) (fits s bytes can.sound) h.block in_b h.target on_c
+
+    m_fits : MessageFits m
+    m_fits = message_fits (get s) (fits s bytes can.sound) i in_mesh
+
+    filled_fits : CellFits (with_tokens x m)
+    filled_fits = ((sum_fits, (tt, tt)), cond_of WordsFit m.header.«data» m.words x.words m_fits.1 x_fits.1)
+
+    pub after_copy : h.«data» ≡ true → (copied s₁ : List ℕ) → copied ≡ put (replace_cell (get s) h.block h.target (with_words x m.words)) s → s₁ ≡ copied → AfterWords s i h s₁
+    after_copy d copied s₁ copies same =
+        let is = same ∙ copies in
+        let y : Cell = with_words x m.words in
+        record {
+          in_cell = cell_in_cell s bytes can.sound h.block h.target can.target y (x_fits.0, m_fits.1) s₁ is h.block h.target can.target;
+          cell =
+              cell_there s bytes can.sound h.block h.target can.target y (x_fits.0, m_fits.1) s₁ is
+              ∙ ap (λ (t : Bool). with_words x (cond t m.words x.words)) (sym d);
+          covered = cell_cell s bytes can.sound h.block h.target can.target y (x_fits.0, m_fits.1) s₁ is;
+        }
+
+    pub tokens_filled : {s₁ : List ℕ} → AfterWords s i h s₁ → {state sum : TokenState} → TokenStateOf (cell_at (get s₁) h.block h.target) state
+        → ((y : Cell) (n : Message) → TokenStateOf y state → h ≡ n.header → TokenStateOf (with_tokens y n) sum)
+        → (s₂ : List ℕ) → s₂ ≡ put (replace_cell (get s₁) h.block h.target (with_token_state (cell_at (get s₁) h.block h.target) sum)) s₁ → s₂ ≡ put (replace_cell (get s) h.block h.target (with_tokens x m)) s
+    tokens_filled {s₁ = s₁} after {sum = sum} told adds s₂ is =
         after.covered (with_tokens x m) filled_fits s₂
         (is ∙ ap (λ (y : Cell). put (replace_cell (get s₁) h.block h.target y) s₁)
-        (cell_of_state (with_tokens x m) (cell_at (get s₁) h.block h.target) sum (adds x m told_before can.header)
+        (cell_of_state (with_tokens x m) (cell_at (get s₁) h.block h.target) sum (adds x m (told_before after told) can.header)
         (ap (λ (y : Cell). y.words) after.cell ∙ ap (λ (k : MessageHeader). cond k.«data» m.words x.words) can.header)))
 
-  -- ---- the mesh
+    -- ---- the mesh
 
-  module _ (s₁ : List ℕ) (is : s₁ ≡ put (replace_cell (get s) h.block h.target (with_tokens (cell_at (get s) h.block h.target) (message_at (get s) i))) s) where
-    -- it is as it was
-    read₁ : get s₁ ≡ replace_cell (get s) h.block h.target (with_tokens (cell_at (get s) h.block h.target) (message_at (get s) i))
-    read₁ = cell_read s bytes can.sound h.block h.target can.target (with_tokens x m) filled_fits s₁ is
+    module _ (s₁ : List ℕ) (is : s₁ ≡ put (replace_cell (get s) h.block h.target (with_tokens x m)) s) where
+      -- it is as it was
+      read₁ : get s₁ ≡ replace_cell (get s) h.block h.target (with_tokens x m)
+      read₁ = cell_read s bytes can.sound h.block h.target can.target (with_tokens x m) filled_fits s₁ is
 
-    pub can_remove : InLayout s₁ × (i < messages_in s₁)
-    can_remove = (
-      (cell_in_cell s bytes can.sound h.block h.target can.target (with_tokens x m) filled_fits s₁ is h.block h.target can.target).whole,
-      omega (arith, in_mesh, mesh_is s₁, ap (λ (r : Rack). length r.mesh) read₁),
-    )
+      pub can_remove : InLayout s₁ × (i < messages_in s₁)
+      can_remove = (
+        (cell_in_cell s bytes can.sound h.block h.target can.target (with_tokens x m) filled_fits s₁ is h.block h.target can.target).whole,
+        omega (arith, in_mesh, mesh_is s₁, ap (λ (r : Rack). length r.mesh) read₁),
+      )
 
-    pub delivered_is : (s₂ : List ℕ) → s₂ ≡ put (with_mesh (get s₁) (remove_at (get s₁).mesh i)) s₁ → s₂ ≡ put (delivered (get s) i) s
-    unfolding delivered
-    delivered_is s₂ is' =
-        cell_mesh s bytes can.sound h.block h.target can.target (with_tokens x m) filled_fits s₁ is (remove_at (get s).mesh i)
-        (omega (arith, length_removed (get s).mesh i, mesh_is s, can.sound.whole.messages))
-        (all_removed MessageFits (get s).mesh i (fits s bytes can.sound).mesh_fits_lem) s₂
-        (is' ∙ ap (λ (k : Rack). put (with_mesh (get s₁) (remove_at k.mesh i)) s₁) read₁)
-        ∙ ap (λ (k : MessageHeader). put (with_cell (get s) k.block k.target (with_tokens (cell_at (get s) k.block k.target) m) (remove_at (get s).mesh i)) s) can.header
+      pub delivered_is : (s₂ : List ℕ) → s₂ ≡ put (with_mesh (get s₁) (remove_at (get s₁).mesh i)) s₁ → s₂ ≡ put (delivered (get s) i) s
+      unfolding delivered
+      delivered_is s₂ is' =
+          cell_mesh s bytes can.sound h.block h.target can.target (with_tokens x m) filled_fits s₁ is (remove_at (get s).mesh i)
+          (omega (arith, length_removed (get s).mesh i, mesh_is s, can.sound.whole.messages))
+          (all_removed MessageFits (get s).mesh i (fits s bytes can.sound).mesh_fits_lem) s₂
+          (is' ∙ ap (λ (k : Rack). put (with_mesh (get s₁) (remove_at k.mesh i)) s₁) read₁)
+          ∙ ap (λ (k : MessageHeader). put (with_cell (get s) k.block k.target (with_tokens (cell_at (get s) k.block k.target) m) (remove_at (get s).mesh i)) s) can.header
 
 -- ---- from the bytes at the start, by what each call left
 
 module _ (s : List ℕ) (known : (k : ℕ) → Fits w8 (get_or s k 0)) (i : ℕ) (h : MessageHeader) (pre : SoundRecord s × (check (get s) (Deliver i) ≡ no_refusal)) (e : h ≡ (message_at (get s) i).header)
     (s₁ : List ℕ) (is : s₁ ≡ put (replace_cell (get s) h.block h.target (with_tokens (cell_at (get s) h.block h.target) (message_at (get s) i))) s) where
-  bytes : Bytes s
-  bytes = λ k. (known k).fits
-
   -- the target is filled, and the message still in the mesh
   pub still_laid_out : InLayout s₁
-  still_laid_out = (can_remove s bytes i h (can_fill s i h pre e) s₁ is).0
+  still_laid_out = (can_remove (can_fill s i h pre e) known s₁ is).0
 
   pub still_there : i < messages_in s₁
-  still_there = (can_remove s bytes i h (can_fill s i h pre e) s₁ is).1
+  still_there = (can_remove (can_fill s i h pre e) known s₁ is).1
 
   -- and once it is removed, the bytes are what the table's change leaves
   pub message_goes : (s₂ : List ℕ) → s₂ ≡ put (with_mesh (get s₁) (remove_at (get s₁).mesh i)) s₁ → s₂ ≡ buffer_after s (Deliver i)
   unfolding after
-  message_goes s₂ is' = written_is s (Deliver i) s₂ pre.1 (delivered_is s bytes i h (can_fill s i h pre e) s₁ is s₂ is')
+  message_goes s₂ is' = written_is s (Deliver i) s₂ pre.1 (delivered_is (can_fill s i h pre e) known s₁ is s₂ is')

@@ -19,13 +19,12 @@ fn fill_target(rec: &mut [u8], position: u8, header: MessageHeader)
     requires { CanFill rec.old position header }
     ensures { rec.new ≡ put (replace_cell (get rec.old) header.block header.target (with_tokens (cell_at (get rec.old) header.block header.target) (message_at (get rec.old) position))) rec.old }
 {
-    let block = header.block;
-    let target = header.target;
     if header.data {
-        record_mesh::copy_words(rec, position, block, target);
+        record_mesh::copy_words(rec, position, header.block, header.target);
     }
-    let state = step_tokens::with_tokens(record::cells::token_state(rec, block, target), header);
-    record::cells::set_token_state(rec, block, target, state);
+    let state = record::cells::token_state(rec, header.block, header.target);
+    let filled = step_tokens::with_tokens(state, header);
+    record::cells::set_token_state(rec, header.block, header.target, filled);
 }
 
 // Fills the target, then takes the message out of the mesh: the removal moves other messages over its words. The reply is of the message that was there.
@@ -43,15 +42,14 @@ fn deliver_message(rec: &mut [u8], position: u8) -> Result<Answer, Refusal>
     })
 }
 
-// With both replies as arms of one `if` the compiler packs each where it is made.
+// A deliver: refused, with nothing changed, or made.
 pub fn deliver(rec: &mut [u8], position: u8) -> Result<Answer, Refusal>
     requires { SoundRecord rec.old }
     ensures reply { result ≡ reply_to_step rec.old (Step.Deliver position) }
     ensures buffer { rec.new ≡ buffer_after rec.old (Step.Deliver position) }
 {
     if rec[MESSAGE_COUNT_OFFSET] <= position {
-        Err(Refusal::NoMessage)
-    } else {
-        deliver_message(rec, position)
+        return Err(Refusal::NoMessage);
     }
+    deliver_message(rec, position)
 }
