@@ -1,2 +1,3 @@
 pub mod FieldParsing
 pub mod BodyParsing
+pub mod RecordParsing

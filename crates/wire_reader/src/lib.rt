@@ -9,11 +9,14 @@ ghost use Rattle.std.specs.Prelude.{◌≡◌};
 ghost use Rattle.spec_wire.specs.Reader.{read_body, read_record};
 ghost use Rattle.wire_reader.specs.Parsing.{reading_of};
 
-use body::Parsed;
-use spec_wire::{KIND_DELIVER, KIND_FORWARD, KIND_LOAD, KIND_RAISE, KIND_SEND, KIND_STORE, Refusal};
+use base::numbers::BigEndian;
+use spec_wire::{
+    KIND_DELIVER, KIND_FORWARD, KIND_LOAD, KIND_RAISE, KIND_SEND, KIND_STORE, Refusal, Step,
+};
 
 // The step of the kind with this kind byte, from its body.
-fn read_body(kind: u8, body: &[u8]) -> Parsed
+#[tactic(auto, using(crate::proofs::BodyParsing::no_kinds))]
+fn read_body(kind: u8, body: &[u8]) -> Option<Step>
     ensures { reading_of result ≡ read_body kind body.now }
 {
     match kind {
@@ -22,38 +25,17 @@ fn read_body(kind: u8, body: &[u8]) -> Parsed
         KIND_SEND => message_body::read_send(body),
         KIND_DELIVER => message_body::read_deliver(body),
         KIND_RAISE..=KIND_FORWARD => body::read_claim(kind, body),
-        _ => body::torn(),
+        _ => None,
     }
-}
-
-// What parsed bytes read as.
-fn reading_of(parsed: Parsed) -> Result<Step, Refusal>
-    ensures { result ≡ reading_of parsed }
-{
-    let step = parsed.step;
-    if parsed.ok {
-        Ok(step)
-    } else {
-        Err(Refusal::Torn)
-    }
-}
-
-// The bytes as a step record: what they read as, still in parts.
-pub fn parse(bytes: &[u8]) -> Parsed
-    ensures { reading_of result ≡ read_record bytes.now }
-{
-    if bytes.len() < 3 {
-        return body::torn();
-    }
-    if base::numbers::u16_at(bytes, 1) as usize != bytes.len() - 3 {
-        return body::torn();
-    }
-    read_body(bytes[0], &bytes[3..])
 }
 
 // The step that the bytes are the step record of.
+#[tactic(auto, using(crate::proofs::RecordParsing::frames))]
 pub fn read(bytes: &[u8]) -> Result<Step, Refusal>
     ensures { result ≡ read_record bytes.now }
 {
-    reading_of(parse(bytes))
+    if bytes.len() < 3 || usize::from(u16::read_at(bytes, 1)) != bytes.len() - 3 {
+        return Err(Refusal::Torn);
+    }
+    read_body(bytes[0], &bytes[3..]).ok_or(Refusal::Torn)
 }
