@@ -7,7 +7,7 @@ ghost use Rattle.spec_rack.specs.Soundness.{sizes};
 ghost use Rattle.spec_rack.specs.RecordLayout.{block_size, record_length, block, put};
 ghost use Rattle.spec_rack.specs.Opening.{open_reply, open_after};
 
-use base::numbers::put_u32;
+use base::numbers::BigEndian;
 use record::sizes;
 use spec_rack::{
     Answer, BLOCK_COUNT_OFFSET, BLOCK_SIZE, BLOCKS_OFFSET, BOARD_COUNT_OFFSET, CLAIMS_OFFSET,
@@ -59,7 +59,7 @@ fn write_fresh(rec: &mut [u8], sizes: Sizes)
     requires { record_length sizes.blocks ≤ length rec.old }
     ensures { rec.new ≡ put (fresh sizes.boards sizes.blocks sizes.tokens) rec.old }
 {
-    put_u32(rec, FORMAT_OFFSET, FORMAT_MAGIC);
+    FORMAT_MAGIC.write_at(rec, FORMAT_OFFSET);
     rec[BOARD_COUNT_OFFSET] = sizes.boards;
     rec[BLOCK_COUNT_OFFSET] = sizes.blocks;
     rec[TOKEN_COUNT_OFFSET] = sizes.tokens;

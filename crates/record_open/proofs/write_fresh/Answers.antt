@@ -12,7 +12,7 @@ pub returns : goal.returns
 returns c =
     let n = c.args.sizes.boards in
     let few : n < 16 = omega (arith, (in_range_lem n c.args.sizes.blocks c.args.sizes.tokens c.args.sizes.in_range).1) in
-    open_all n c.args.sizes.blocks c.args.sizes.tokens c.args.rec.now c.put_u32.new.s c.put_u32.ensures few c.requires c.loop-b.b c.loop-b.rec c.loop-b.invariant (omega (arith, c.from-b-end.ensures, c.loop-b.auto.b-end))
+    open_all n c.args.sizes.blocks c.args.sizes.tokens c.args.rec.now c.write_at.new.s c.write_at.ensures few c.requires c.loop-b.b c.loop-b.rec c.loop-b.invariant (omega (arith, c.from-b-end.ensures, c.loop-b.auto.b-end))
 
 pub loop-b-init : goal.loop-b-init
 loop-b-init c = open_none c.args.sizes.boards c.args.sizes.blocks c.args.sizes.tokens _
@@ -21,5 +21,5 @@ pub loop-b-preserved : goal.loop-b-preserved
 loop-b-preserved c =
     let n = c.args.sizes.boards in
     let few : n < 16 = omega (arith, (in_range_lem n c.args.sizes.blocks c.args.sizes.tokens c.args.sizes.in_range).1) in
-    open_more n c.args.sizes.blocks c.args.sizes.tokens c.args.rec.now c.put_u32.new.s c.put_u32.ensures few c.requires c.loop-b.b c.loop-b.rec c.loop-b.invariant _ (omega (arith, c.from-b-end.ensures))
+    open_more n c.args.sizes.blocks c.args.sizes.tokens c.args.rec.now c.write_at.new.s c.write_at.ensures few c.requires c.loop-b.b c.loop-b.rec c.loop-b.invariant _ (omega (arith, c.from-b-end.ensures))
     (part_written ((block n).write (fresh_block n c.args.sizes.tokens)) (block_offset c.loop-b.b) block_size _ c.loop-b.rec c.open_block.new.bytes (omega arith) c.open_block.ensures)
