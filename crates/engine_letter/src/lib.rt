@@ -49,6 +49,7 @@ pub fn letter(rec: &[u8], component: u32, block: u32) -> Result<Letter, Refusal>
     if component == 0 {
         return Err(Refusal::Home);
     }
+    // `as`: no From leads from u32 to usize.
     let at = BLOCKS_OFFSET + BLOCK_SIZE * (block as usize) + component as usize;
     Ok(letter_at(rec, at))
 }
