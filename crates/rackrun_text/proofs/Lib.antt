@@ -1,2 +1,2 @@
-pub mod LineLaws
-pub mod RunText
+mod LineLaws
+mod RunText

@@ -4,7 +4,7 @@
 
 pub mod line;
 
-ghost use Rattle.std.specs.Prelude.{◌≡◌, ◌+◌, ◌*◌, ◌/◌, ◌≤◌, ◌<◌, min, length, get_or};
+ghost use Rattle.std.specs.Prelude.{◌≡◌, ◌+◌, ◌*◌, ◌/◌, ◌≤◌, ◌<◌, length};
 ghost use Rattle.spec_base.specs.Placing.{place};
 ghost use Rattle.spec_wire.specs.Frames.{frames};
 ghost use Rattle.spec_rack.specs.Lists.{replies, after};
@@ -12,38 +12,48 @@ ghost use Rattle.spec_rackrun.specs.Rackrun.{lines, opening_reply, opening_after
 ghost use Rattle.spec_rack.specs.RecordLayout.{longest_record};
 ghost use Rattle.spec_rackrun.specs.RuledText.{ruled_text};
 
-use base::wide_at;
-use spec_rack::{LONGEST_RECORD};
+use line::LINE_SIZE;
+use spec_rack::{Answer, LONGEST_RECORD};
 use spec_wire::Refusal;
 
-// Gives the step records of a list to the record, and places the steps' lines.
-fn put_steps(rec: &mut [u8], list: &[u8], out: &mut [u8], at: usize) -> usize
-    requires { (length list.now ≤ 65536) × (at + 16 * ((length list.now + 2) / 3) ≤ length out.old) }
-    ensures text { (result ≡ at + length (lines 1 (replies rec.old (frames 65536 list.now)))) × (out.new ≡ place at (lines 1 (replies rec.old (frames 65536 list.now))) out.old) }
+// How many bytes of an input are used.
+pub const INPUT_SIZE: usize = 65_536;
+
+// The longest text of them: a line for each three.
+pub const TEXT_SIZE: usize = LINE_SIZE * ((INPUT_SIZE + 2) / 3);
+
+// Gives the step records of a list to the record, and places the steps' lines at the front of a buffer.
+#[tactic(auto, using(crate::proofs::RunText::frame_inside))]
+fn put_steps(rec: &mut [u8], list: &[u8], out: &mut [u8]) -> usize
+    requires { (length list.now ≤ 65536) × (16 * ((length list.now + 2) / 3) ≤ length out.old) }
+    ensures text { out.new ≡ place 0 (lines 1 (replies rec.old (frames 65536 list.now))) out.old }
+    ensures length { result ≡ length (lines 1 (replies rec.old (frames 65536 list.now))) }
     ensures buffer { rec.new ≡ after rec.old (frames 65536 list.now) }
+    ensures fits { result ≤ length out.old }
 {
-    let mut to = at;
-    let mut place: usize = 0;
+    let mut rest = list;
     let mut made: u64 = 0;
-    while place < list.len() {
-        let end = wire_frames::frame_end(list, place);
-        let reply = engine_step::step(rec, &list[place..end]);
+    let mut length = 0;
+    while !rest.is_empty() {
+        let (frame, others) = rest.split_at(wire_frames::frame_end(rest, 0));
+        let reply = engine_step::step(rec, frame);
         made += 1;
-        to = line::put_line(out, to, made, reply);
-        place = end;
+        length += line::put_line(&mut out[length..], made, reply);
+        rest = others;
     }
-    to
+    length
 }
 
 // Opens a rack with the first three bytes of an input.
+#[tactic(auto, unfolding(spec_rackrun::specs::Rackrun::opening_reply, spec_rackrun::specs::Rackrun::opening_after))]
 fn open_from_input(rec: &mut [u8], input: &[u8]) -> Result<Answer, Refusal>
     ensures reply { result ≡ opening_reply rec.old input.now }
     ensures buffer { rec.new ≡ opening_after rec.old input.now }
 {
-    if input.len() < 3 {
+    let [boards, blocks, tokens, ..] = *input else {
         return Err(Refusal::Torn);
-    }
-    record_open::open(rec, wide_at(input, 0), wide_at(input, 1), wide_at(input, 2))
+    };
+    record_open::open(rec, u32::from(boards), u32::from(blocks), u32::from(tokens))
 }
 
 // Where the steps start in an input of so many bytes: there are none where the opening was refused.
@@ -56,31 +66,15 @@ fn steps_offset(reply: Result<Answer, Refusal>, count: usize) -> usize
     }
 }
 
-// How many bytes of an input are used.
-fn used_input(count: usize) -> usize
-    ensures { result ≡ min 65536 count }
-{
-    if count < 65536 { count } else { 65536 }
-}
-
-// Places the text of an input, which the rules alone decide, and gives its length. The record is in `rec`, which has room for the longest, so that no
-// opening is refused for want of room.
-fn put_text(input: &[u8], rec: &mut [u8], out: &mut [u8; 349536]) -> usize
-    requires { longest_record ≤ length rec.old }
+// The text of an input, which the rules alone decide, at the front of `out`, and its length. The record is in `rec`, where the run leaves it; its type says
+// that there is room for the longest, so that no opening is refused for want of it.
+pub fn report(input: &[u8], rec: &mut [u8; LONGEST_RECORD], out: &mut [u8; TEXT_SIZE]) -> usize
     ensures text { (result ≡ length (ruled_text input.now)) × (out.new ≡ place 0 (ruled_text input.now) out.old) }
     ensures buffer { rec.new ≡ record_after_run rec.old input.now }
 {
-    let count = used_input(input.len());
-    let reply = open_from_input(rec, input);
-    let at = line::put_line(out, 0, 0, reply);
-    let from = steps_offset(reply, count);
-    put_steps(rec, &input[from..count], out, at)
-}
-
-// The text of an input, at the front of `out`, and its length. The record is in `rec`, where the run leaves it; its type says that there is room.
-pub fn report(input: &[u8], rec: &mut [u8; LONGEST_RECORD], out: &mut [u8; 349536]) -> usize
-    ensures text { (result ≡ length (ruled_text input.now)) × (out.new ≡ place 0 (ruled_text input.now) out.old) }
-    ensures buffer { rec.new ≡ record_after_run rec.old input.now }
-{
-    put_text(input, rec, out)
+    let used = &input[..input.len().min(INPUT_SIZE)];
+    let opening = open_from_input(rec, used);
+    let steps = &used[steps_offset(opening, used.len())..];
+    let first = line::put_line(out, 0, opening);
+    first + put_steps(rec, steps, &mut out[first..])
 }

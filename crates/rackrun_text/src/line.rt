@@ -1,112 +1,105 @@
 // The lines that a program writes of replies.
-ghost use Rattle.std.specs.Prelude.{◌≡◌, ◌+◌, ◌≤◌, ◌<◌, [], ◌∷◌, ◌++◌, length};
+ghost use Rattle.std.specs.Prelude.{◌≡◌, ◌+◌, ◌≤◌, ◌<◌, ◌++◌, length};
 ghost use Rattle.spec_base.specs.Placing.{place};
-ghost use Rattle.spec_rackrun.specs.Rackrun.{digit, digits, decimal, reply_line, line};
+ghost use Rattle.spec_rackrun.specs.Rackrun.{digit, digits, decimal, reply_text, line};
 
-use spec_rack::{Answer};
+use arrayvec::ArrayVec;
+use spec_rack::Answer;
+use spec_wire::Refusal;
+
+// The longest line.
+pub const LINE_SIZE: usize = 16;
+
+// The bytes of a line so far. They are pushed, not written by `write!`: its contract speaks of `Ok` alone, and a line is promised for every reply.
+type Line = ArrayVec<u8, LINE_SIZE>;
 
 // A digit in ASCII.
 fn digit(n: u64) -> u8
     requires { n < 16 }
     ensures { result ≡ digit n }
 {
-    if n < 10 { 48 + n as u8 } else { 87 + n as u8 }
-}
-
-// How many digits a number has in decimal, of which a line has five at most.
-fn width(n: u64) -> usize
-    ensures { (decimal 4 n ≡ digits 10 result n) × (result ≤ 5) }
-{
     if n < 10 {
-        return 1;
+        b'0' + n as u8
+    } else {
+        b'a' - 10 + n as u8
     }
-    if n < 100 {
-        return 2;
+}
+
+// Adds the lowest digits of a number.
+fn push_digits(text: &mut Line, base: u64, count: usize, n: u64)
+    requires { (length text.old.items + count ≤ 16) × (1 ≤ base) × (base ≤ 16) }
+    ensures text { text.new.items ≡ text.old.items ++ digits base count n }
+    ensures length { length text.new.items ≡ length text.old.items + count }
+{
+    if count > 0 {
+        push_digits(text, base, count - 1, n / base);
+        text.push(digit(n % base));
     }
-    if n < 1000 {
-        return 3;
+}
+
+// Adds a number in decimal, of at most one digit and so many more.
+fn push_decimal(text: &mut Line, more: usize, n: u64)
+    requires { length text.old.items + more < 16 }
+    ensures text { text.new.items ≡ text.old.items ++ decimal more n }
+    ensures length { length text.new.items ≤ length text.old.items + more + 1 }
+{
+    if more > 0 && n >= 10 {
+        push_decimal(text, more - 1, n / 10);
     }
-    if n < 10000 { 4 } else { 5 }
+    text.push(digit(n % 10));
 }
 
-// Places the lowest digits of a number from the last to the first, and a byte after them, and gives the offset behind it.
-fn put_digits(out: &mut [u8], at: usize, base: u64, count: usize, n: u64, end: u8) -> usize
-    requires { (at + count < length out.old) × (1 ≤ base) × (base ≤ 16) }
-    ensures { (result ≡ at + count + 1) × (out.new ≡ place at (digits base count n ++ end ∷ []) out.old) }
-{
-    out[at + count] = end;
-    let mut left = count;
-    let mut rest = n;
-    while 0 < left {
-        left -= 1;
-        out[at + left] = digit(rest % base);
-        rest /= base;
-    }
-    at + count + 1
-}
-
-// Places a letter, the lowest digits of a number and a byte after them, and gives the offset behind it.
-fn put_number(
-    out: &mut [u8],
-    at: usize,
-    letter: u8,
-    base: u64,
-    count: usize,
-    n: u64,
-    end: u8,
-) -> usize
-    requires { (at + 1 + count < length out.old) × (1 ≤ base) × (base ≤ 16) }
-    ensures { (result ≡ at + count + 2) × (out.new ≡ place at (letter ∷ (digits base count n ++ end ∷ [])) out.old) }
-{
-    out[at] = letter;
-    put_digits(out, at + 1, base, count, n, end)
-}
-
-// Places whom a deliver served, component, point and block, and the newline.
-fn put_served(out: &mut [u8], at: usize, component: u8, block: u8) -> usize
-    requires { at + 10 ≤ length out.old }
-    ensures { (result ≡ at + length (reply_line (Ok (Answer.Served component block)))) × (out.new ≡ place at (reply_line (Ok (Answer.Served component block))) out.old) }
-{
-    let first = component as u64;
-    let second = block as u64;
-    let next = put_number(out, at, b'd', 10, width(first), first, b'.');
-    put_digits(out, next, 10, width(second), second, b'\n')
-}
-
-// Places `ok` and the newline.
-fn put_done(out: &mut [u8], at: usize) -> usize
-    requires { at + 3 ≤ length out.old }
-    ensures { (result ≡ at + length (reply_line (Ok Answer.Done))) × (out.new ≡ place at (reply_line (Ok Answer.Done)) out.old) }
-{
-    out[at] = b'o';
-    out[at + 1] = b'k';
-    out[at + 2] = b'\n';
-    at + 3
-}
-
-// Places the text of a reply and the newline.
-fn put_reply(out: &mut [u8], at: usize, reply: Result<Answer, Refusal>) -> usize
-    requires { at + 10 ≤ length out.old }
-    ensures { (result ≡ at + length (reply_line reply)) × (out.new ≡ place at (reply_line reply) out.old) }
+// Adds the text of a reply.
+#[tactic(auto, unfolding(spec_rackrun::specs::Rackrun::reply_text))]
+fn push_reply(text: &mut Line, reply: Result<Answer, Refusal>)
+    requires { length text.old.items + 9 ≤ 16 }
+    ensures text { text.new.items ≡ text.old.items ++ reply_text reply }
+    ensures length { length text.new.items ≤ length text.old.items + 9 }
 {
     match reply {
-        Ok(answer) => match answer {
-            Answer::Done => put_done(out, at),
-            Answer::Word(word) => put_number(out, at, b'v', 16, 8, word as u64, b'\n'),
-            Answer::Served { component, block } => put_served(out, at, component, block),
-        },
+        Ok(Answer::Done) => {
+            text.push(b'o');
+            text.push(b'k');
+        }
+        Ok(Answer::Word(word)) => {
+            text.push(b'v');
+            push_digits(text, 16, 8, u64::from(word));
+        }
+        Ok(Answer::Served { component, block }) => {
+            text.push(b'd');
+            push_decimal(text, 2, u64::from(component));
+            text.push(b'.');
+            push_decimal(text, 2, u64::from(block));
+        }
         Err(refusal) => {
-            let n = base::results::number(refusal);
-            put_number(out, at, b'r', 10, width(n), n, b'\n')
+            text.push(b'r');
+            push_decimal(text, 1, base::results::number(refusal));
         }
     }
 }
 
-// Places a line.
-pub fn put_line(out: &mut [u8], at: usize, index: u64, reply: Result<Answer, Refusal>) -> usize
-    requires { at + 16 ≤ length out.old }
-    ensures { (result ≡ at + length (line index reply)) × (out.new ≡ place at (line index reply) out.old) }
+// The bytes of a line.
+#[tactic(auto, unfolding(spec_rackrun::specs::Rackrun::line))]
+fn line(index: u64, reply: Result<Answer, Refusal>) -> Line
+    ensures { result.items ≡ line index reply }
 {
-    let next = put_digits(out, at, 10, width(index), index, b' ');
-    put_reply(out, next, reply)
+    let mut text = Line::new();
+    push_decimal(&mut text, 4, index);
+    text.push(b' ');
+    push_reply(&mut text, reply);
+    text.push(b'\n');
+    text
+}
+
+// Places a line at the front of a buffer, and gives its length.
+#[tactic(auto, unfolding(spec_base::specs::Placing::place))]
+pub fn put_line(out: &mut [u8], index: u64, reply: Result<Answer, Refusal>) -> usize
+    requires { 16 ≤ length out.old }
+    ensures text { out.new ≡ place 0 (line index reply) out.old }
+    ensures length { result ≡ length (line index reply) }
+    ensures short { result ≤ 16 }
+{
+    let line = line(index, reply);
+    out[..line.len()].copy_from_slice(line.as_slice());
+    line.len()
 }

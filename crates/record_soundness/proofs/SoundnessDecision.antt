@@ -5,9 +5,9 @@ use native.Mathlib.Omega.{arith}
 use mathlib.Core.Path.{◌≡◌, refl, sym, ap, ◌∙◌, subst}
 use mathlib.Core.Bool.{Bool, true, false, cond, ◌&&◌, and_comm, and_assoc}
 use mathlib.Core.List.{List}
-use lib.ListN.{length, get_or, set}
+use lib.ListN.{length, get_or, set, replicate, get_or-replicate}
 use lib.Dec.{eqb, leb}
-use borrow.Author.Tests.{eq-eqb, ne_eqb, eqb-true, le-leb, leb-true, lt-leb, ltb-true}
+use borrow.Author.Tests.{eq-eqb, ne_eqb, eqb-true, le-leb, leb-true, ltb-true}
 use Rattle.spec_base.specs.Folds.{all_below, sum_below, sum, all}
 use Rattle.spec_base.specs.Number.{Bytes}
 use Rattle.spec_base.specs.Layout.{slice}
@@ -24,7 +24,8 @@ use Rattle.record.proofs.FieldOffsets.{cells_many, tokens_at, words_at, claims_a
 use Rattle.record.proofs.FieldBytes.{words_eight, present_is, message_read, message_formed, block_formed, record_formed}
 use Rattle.record_lanes.specs.Lanes.{plain_at, owner_at, valid_at, dirty_at, sound_lane, sound_lanes, unused_lanes_empty, lane_sum}
 use Rattle.record_message.specs.Messages.{token_sum_at, sound_message_at}
-use Rattle.record_soundness.specs.Decision.{carried_sum_at, sum_in_flight, tokens_total, sound_claims_at, sound_block_at}
+use Rattle.record_message.proofs.MessageLaws.{message_block}
+use Rattle.record_soundness.specs.Decision.{header_sound, carried_sum_at, sum_in_flight, tokens_total, sound_claims_at, sound_block_at}
 use Rattle.record_lanes.proofs.LaneLaws.{lane_cell, Lanes, lanes_facts, lanes_form, lanes_fine, lanes_same}
 
 -- ---- the weights
@@ -47,6 +48,14 @@ module _ (s : List ℕ) where
     flying_most m k =
         sum_most (λ i. carried_sum_at s k (message_offset i)) 16711935 m
         (λ i l. cond_of (λ w. w ≤ 16711935) (eqb (get_or s (message_offset i + message_block_offset) 0) k) (token_sum_at s (message_offset i + message_plain_offset)) 0 (weight_most s h (message_offset i + message_plain_offset)) (omega arith))
+
+  -- the sums before the first message
+  pub sums_start : (k : ℕ) → k < 32 → get_or (replicate 32 0) k 0 ≡ sum_in_flight s 0 k
+  sums_start k l = get_or-replicate {A = ℕ} 32 k 0 0 l ∙ sym (flying_none k)
+
+  -- a sound message has a sum for its block
+  pub block_known : (at n b block : ℕ) (test : Bool) → block ≡ get_or s (at + message_block_offset) 0 → test ≡ sound_message_at n b s at → test ≡ true → b ≤ 32 → block < 32
+  block_known at n b block test e f h l = omega (arith, e, message_block s at n b (sym f ∙ h))
 
   -- the sums after one message more
   pub sums_turn : (sums : List ℕ) (i b v : ℕ) → length sums ≡ 32 → b < 32 → b ≡ get_or s (message_offset i + message_block_offset) 0 → v ≡ token_sum_at s (message_offset i + message_plain_offset) + get_or sums b 0
@@ -370,31 +379,32 @@ module _ (s : List ℕ) where
         } in
         and_of (well_formed_record s) (sound (get s)) (well_formed_lem s ok) (decided s ok ∙ fine))
 
-    rest_fails : rest_sound ≡ false → sound_bytes s ≡ false
-    rest_fails e = sound_is ∙ and_right long_enough (format_known && rest_sound) (and_right format_known rest_sound e)
-
     -- ---- as the code asks
 
-    pub unsound_room : length s < record_length (blocks_in s) → sound_bytes s ≡ false
-    unsound_room l = sound_is ∙ and_left long_enough (format_known && rest_sound) (lt-leb (record_length (blocks_in s)) (length s) l)
+    asked : sound_bytes s ≡ (header_sound s && (mesh_fine && blocks_fine))
+    asked = sound_is ∙ in_order header_fine format_known long_enough mesh_fine blocks_fine
+      where
+        in_order : (h f l m b : Bool) → (l && (f && (h && m && b))) ≡ ((h && f && l) && (m && b))
+        in_order true true true m b = refl
+        in_order true true false m b = refl
+        in_order true false true m b = refl
+        in_order true false false m b = refl
+        in_order false true true m b = refl
+        in_order false true false m b = refl
+        in_order false false true m b = refl
+        in_order false false false m b = refl
 
-    pub unsound_header : header_fine ≡ false → sound_bytes s ≡ false
-    unsound_header e = rest_fails (and_left (header_fine && mesh_fine) blocks_fine (and_left header_fine mesh_fine e))
-
-    pub unsound_format : format_known ≡ false → sound_bytes s ≡ false
-    unsound_format e = sound_is ∙ and_right long_enough (format_known && rest_sound) (and_left format_known rest_sound e)
+    pub unsound_header : header_sound s ≡ false → sound_bytes s ≡ false
+    unsound_header e = asked ∙ and_left (header_sound s) (mesh_fine && blocks_fine) e
 
     pub unsound_mesh : mesh_fine ≡ false → sound_bytes s ≡ false
-    unsound_mesh e = rest_fails (and_left (header_fine && mesh_fine) blocks_fine (and_right header_fine mesh_fine e))
+    unsound_mesh e = asked ∙ and_right (header_sound s) (mesh_fine && blocks_fine) (and_left mesh_fine blocks_fine e)
 
     -- with the sums of the mesh
-    pub sound_blocks : header_fine ≡ true → format_known ≡ true → record_length (blocks_in s) ≤ length s → mesh_fine ≡ true
-        → (sums : List ℕ) → ((k : ℕ) → k < 32 → get_or sums k 0 ≡ sum_in_flight s (messages_in s) k)
+    pub sound_blocks : header_sound s ≡ true → mesh_fine ≡ true → (sums : List ℕ) → ((k : ℕ) → k < 32 → get_or sums k 0 ≡ sum_in_flight s (messages_in s) k)
         → all_below (blocks_in s) (λ k. sound_block_at (boards_in s) (tokens_in s) s (block_offset k) (get_or sums k 0)) ≡ sound_bytes s
-    sound_blocks e w l a sums f =
-        let few : blocks_in s ≤ 32 = few_blocks e in
+    sound_blocks e a sums f =
+        let few : blocks_in s ≤ 32 = few_blocks (and_l header_fine format_known (and_l (header_fine && format_known) long_enough e)) in
         below_same (λ k. sound_block_at (boards_in s) (tokens_in s) s (block_offset k) (get_or sums k 0)) (λ k. sound_block_at (boards_in s) (tokens_in s) s (block_offset k) (sum_in_flight s (messages_in s) k)) (blocks_in s)
         (λ k z. ap (sound_block_at (boards_in s) (tokens_in s) s (block_offset k)) (f k (omega arith)))
-        ∙ sym (sound_is ∙ and_known long_enough (format_known && rest_sound) (le-leb (record_length (blocks_in s)) (length s) l)
-        ∙ and_known format_known rest_sound w
-        ∙ and_known (header_fine && mesh_fine) blocks_fine (and_of header_fine mesh_fine e a))
+        ∙ sym (asked ∙ and_known (header_sound s) (mesh_fine && blocks_fine) e ∙ and_known mesh_fine blocks_fine a)

@@ -1,36 +1,17 @@
--- `rackrun_text::put_steps` meets its contract. The invariant: the lines that are left, placed after those there are, make the whole.
-use native.Mathlib.Omega.{arith}
-use Rattle.rackrun_text.proofs.RunText.{cut_inside, going_start, going_room, going_more, going_end}
+-- `rackrun_text::put_steps` meets its contract: a turn adds the line of the first record that is left.
+use Rattle.rackrun_text.proofs.RunText.{going_more, going_end}
 use Rattle.rackrun_text.proofs.put_steps.Goals as goal
 
-pub loop-place-init : goal.loop-place-init
-loop-place-init c =
-    going_start c.args.list.now 65536 c.args.rec.now c.args.out.now c.args.at c.requires.0 c.requires.1
+pub loop-rest-preserved : goal.loop-rest-preserved
+loop-rest-preserved c =
+    going_more _ _ _ _ _ _ _ _ _ c.loop-rest.invariant (cc) _ c.frame_end.ensures _ _ _ _ _ _ c.split_at.ensures.front c.split_at.ensures.back
+    c.step-reply.ensures.reply c.step-reply.ensures.buffer c.put_line-length.ensures.short c.put_line-length.ensures.length c.put_line-length.ensures.text
 
-pub slice_bounds-step-end : goal.slice_bounds-step-end
-slice_bounds-step-end c =
-    omega (arith, c.loop-place-test.true, (cut_inside c.args.list.now c.loop-place.place c.frame_end-end.result c.loop-place-test.true c.frame_end-end.ensures).1.0)
+pub returns-clause-text : goal.returns-clause-text
+returns-clause-text c = (going_end _ _ _ _ _ _ _ _ _ c.loop-rest.invariant (cc)).0.1
 
-pub put_line-to-requires : goal.put_line-to-requires
-put_line-to-requires c =
-    going_room c.args.list.now 65536 c.args.rec.now c.args.out.now c.args.at c.loop-place.rec c.loop-place.out c.loop-place.to c.loop-place.place c.loop-place.made c.loop-place.invariant c.loop-place-test.true
+pub returns-clause-length : goal.returns-clause-length
+returns-clause-length c = (going_end _ _ _ _ _ _ _ _ _ c.loop-rest.invariant (cc)).0.0
 
-pub loop-place-smaller : goal.loop-place-smaller
-loop-place-smaller c =
-    omega (arith, (cut_inside c.args.list.now c.loop-place.place c.frame_end-end.result c.loop-place-test.true c.frame_end-end.ensures).0)
-
-pub loop-place-preserved : goal.loop-place-preserved
-loop-place-preserved c =
-    going_more c.args.list.now 65536 c.args.rec.now c.args.out.now c.args.at c.loop-place.rec c.loop-place.out c.loop-place.to c.loop-place.place c.loop-place.made c.loop-place.invariant
-    c.frame_end-end.result c.loop-place-test.true c.frame_end-end.ensures _ _ _ _ c.step-reply.auto.rec c.step-reply.ensures.reply c.step-reply.ensures.buffer c.put_line-to.ensures
-
-pub shape_of-rec : goal.shape_of-rec
-shape_of-rec c = c.loop-place.invariant.kept
-
-pub shape_of-out : goal.shape_of-out
-shape_of-out c = c.loop-place.invariant.long
-
-pub returns : goal.returns
-returns c =
-    let ended = going_end c.args.list.now 65536 c.args.rec.now c.args.out.now c.args.at c.loop-place.rec c.loop-place.out c.loop-place.to c.loop-place.place c.loop-place.made c.loop-place.invariant c.loop-place-test.false in
-    record { text = ended.0; buffer = ended.1 }
+pub returns-clause-buffer : goal.returns-clause-buffer
+returns-clause-buffer c = (going_end _ _ _ _ _ _ _ _ _ c.loop-rest.invariant (cc)).1
