@@ -1,14 +1,10 @@
--- Document 01, "Refusal table": whether no line of a table matched, and the two lines that a raise and a lower begin with.
-use Rattle.std.specs.Prelude.{ℕ, Bool, true, false, Ok, Err}
+-- Document 01, "Refusal table": the two lines that a raise and a lower begin with.
+use Rattle.std.specs.Prelude.{ℕ}
 use Rattle.spec_wire.specs.declared.Refusal.TheVariants.{OffRack, Home}
 use Rattle.spec_wire.specs.Answers.{Check}
 use Rattle.spec_wire.specs.Refusals.{when◌refuse◌else◌}
 use Rattle.spec_rack.specs.Rack.{Rack, is_home}
 use Rattle.spec_rack.specs.Rules.{off_rack}
-
-abbrev pub is_pass : Check → Bool
-is_pass (Ok _) = true
-is_pass (Err n) = false
 
 -- off rack, then home, then the rest of the table
 unfoldable pub board_lines : Rack → ℕ → ℕ → Check → Check

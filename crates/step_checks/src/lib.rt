@@ -9,14 +9,14 @@ ghost use Rattle.spec_wire.specs.Refusals.{when◌refuse◌else◌};
 ghost use Rattle.spec_arbiter.specs.Boards.{empty};
 ghost use Rattle.spec_arbiter.specs.Claims.{waiting};
 ghost use Rattle.spec_rack.specs.Rack.{claims_at};
-ghost use Rattle.spec_rack.specs.Rules.{off_rack, mesh_full, reply_of};
+ghost use Rattle.spec_rack.specs.Rules.{off_rack, mesh_full};
 ghost use Rattle.spec_rack.specs.RecordLayout.{block_offset, claims_offset, get, blocks_in};
 ghost use Rattle.record.specs.Needs.{InLayout};
-ghost use Rattle.step_checks.specs.Checked.{is_pass, board_lines};
+ghost use Rattle.step_checks.specs.Checked.{board_lines};
 
 use spec_rack::{
-    Answer, BLOCK_COUNT_OFFSET, BLOCK_SIZE, BLOCKS_OFFSET, BOARD_COUNT_OFFSET, CLAIMS_OFFSET,
-    MESH_LIMIT, MESSAGE_COUNT_OFFSET,
+    BLOCK_COUNT_OFFSET, BLOCK_SIZE, BLOCKS_OFFSET, BOARD_COUNT_OFFSET, CLAIMS_OFFSET, MESH_LIMIT,
+    MESSAGE_COUNT_OFFSET,
 };
 use spec_wire::Refusal;
 
@@ -96,24 +96,4 @@ pub fn line(test: bool, refusal: Refusal, below: Result<(), Refusal>) -> Result<
     ensures { result ≡ (when test refuse refusal else below) }
 {
     if test { Err(refusal) } else { below }
-}
-
-// Whether a verdict lets the step pass.
-pub fn is_pass(verdict: Result<(), Refusal>) -> bool
-    ensures { result ≡ is_pass verdict }
-{
-    match verdict {
-        Ok(()) => true,
-        Err(_) => false,
-    }
-}
-
-// The reply to a step that gives only "done".
-pub fn reply_of(verdict: Result<(), Refusal>) -> Result<Answer, Refusal>
-    ensures { result ≡ reply_of verdict }
-{
-    match verdict {
-        Ok(()) => Ok(Answer::Done),
-        Err(refusal) => Err(refusal),
-    }
 }
