@@ -1,5 +1,5 @@
 // Send and forward: tokens from a cell into the mesh. Check and change of a step stand in one file.
-// order: send, forward, lib
+// order: lib, send, forward
 #![tactic(auto)]
 
 pub mod forward;
