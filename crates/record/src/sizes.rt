@@ -1,4 +1,5 @@
-// The sizes of a rack, as an opening is given them and as a record has them.
+// The sizes of a rack, as an opening is given them and as a record has them: three numbers, which only an opening passes on as one value
+// (`record_open::Sizes`, where they are in range).
 ghost use Rattle.std.specs.Prelude.{◌≡◌};
 ghost use Rattle.spec_rack.specs.Soundness.{sizes};
 

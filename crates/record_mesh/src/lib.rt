@@ -1,4 +1,5 @@
-// The mesh in the record: the messages in flight, oldest first.
+// The mesh in the record: the messages in flight, oldest first. A message is named by its position, and not by a view of it: to copy its words or to
+// remove it writes the record, which ends a view.
 #![tactic(auto)]
 
 ghost use Rattle.std.specs.Prelude.{◌≡◌, [], ◌∷◌, ◌++◌, ◌+◌, ◌*◌, ◌≤◌, ◌<◌, length};

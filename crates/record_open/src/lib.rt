@@ -70,7 +70,7 @@ fn write_fresh(rec: &mut [u8], sizes: Sizes)
     }
 }
 
-// Opens a record of N boards, B blocks and T tokens to a block.
+// Opens a record of N boards, B blocks and T tokens to a block: three numbers, as C has them.
 pub fn open(rec: &mut [u8], boards: u32, blocks: u32, tokens: u32) -> Result<Answer, Refusal>
     ensures reply { result ≡ open_reply boards blocks tokens rec.old }
     ensures buffer { rec.new ≡ open_after boards blocks tokens rec.old }
