@@ -30,22 +30,24 @@ const LAYOUT_FILES: [&str; 3] =
     ["crates/spec_rack/specs/RecordLayout.antt", "crates/spec_rack/specs/Readings.antt", "crates/spec_rack/src/lib.rt"];
 
 /// What a deliver runs at least. The first is where it starts.
-const DELIVER: [&str; 9] = [
+const DELIVER: [&str; 8] = [
     "step_deliver::deliver",
     "step_deliver::deliver_message",
     "step_deliver::fill_target",
     "record_mesh::header_at",
     COPY_WORDS,
-    COPY_BYTES,
     "step_tokens::with_tokens",
     "record::cells::set_token_state",
     "record_mesh::remove",
 ];
 
-/// What alone reads the words of a message that is delivered, the loop over bytes that it calls, and the offset that they are at.
+/// What alone reads the words of a message that is delivered, the method of the library that it copies them by, and the offset that they are at.
 const COPY_WORDS: &str = "record_mesh::copy_words";
-const COPY_BYTES: &str = "record_mesh::bytes::copy_bytes";
+const COPY_BYTES: &str = ".copy_from_slice";
 const WORDS_OF_MESSAGE: &str = "MESSAGE_WORDS_OFFSET";
+
+/// What a deliver may call of the library: none of it makes an array.
+const LIBRARY: [&str; 7] = ["matches!(", "u8::from", "u32::from", "usize::from", COPY_BYTES, ".copy_within", ".split_at_mut"];
 
 /// The functions that read or write eight words as an array.
 const WORD_ARRAYS: [&str; 3] = ["words_at", "put_words", "words_of"];
@@ -401,9 +403,9 @@ fn deliver(crates: &Crates, bad: &mut Vec<String>) -> String {
     if callers.len() != 1 {
         bad.push(format!("deliver: {COPY_WORDS} must be called at one place; it is called in {callers:?}"));
     }
-    let loops = run.get(COPY_WORDS).map_or(0, |function| function.calls_of(COPY_BYTES));
-    if loops != 1 {
-        bad.push(format!("deliver: {COPY_WORDS} must call {COPY_BYTES} once; it has {loops} such calls"));
+    let copies = run.get(COPY_WORDS).map_or(0, |function| function.calls_of(COPY_BYTES));
+    if copies != 1 {
+        bad.push(format!("deliver: {COPY_WORDS} must call {COPY_BYTES} once; it has {copies} such calls"));
     }
     format!("deliver: {} functions, no array among them; the words are read by copy_words alone", run.len())
 }
@@ -434,7 +436,7 @@ fn reached<'a>(all: &'a BTreeMap<String, Function>, start: &'a str, bad: &mut Ve
         if found.insert(path, function).is_some() {
             continue;
         }
-        for call in &function.calls {
+        for call in function.calls.iter().filter(|call| !LIBRARY.contains(&call.as_str())) {
             if !all.contains_key(call) {
                 bad.push(format!("deliver: {path} calls {call}, which this check cannot follow"));
             }
@@ -477,7 +479,7 @@ fn full_path(crates: &Crates, name: &str, path: &str) -> String {
 fn called_path(crates: &Crates, name: &str, module: &str, imports: &BTreeMap<&str, String>, call: &str) -> String {
     let (first, rest) = call.find("::").map_or((call, ""), |at| call.split_at(at));
     match imports.get(first) {
-        _ if call.contains(['.', '!', '<']) => call.to_string(),
+        _ if call.contains(['.', '!', '<']) || LIBRARY.contains(&call) => call.to_string(),
         Some(path) => format!("{path}{rest}"),
         None if rest.is_empty() => format!("{module}::{call}"),
         None => full_path(crates, name, call),
@@ -554,8 +556,23 @@ fn array(tokens: &[String]) -> Option<String> {
     arrays.next().map(|at| tokens[at..].iter().map(String::as_str).take_while(|token| *token != "]").collect::<Vec<_>>().join(" ") + " ]")
 }
 
-/// The calls among tokens as they are written; methods (`.f`), macros (`f!`) and calls with named types (`f::<`) are left for the caller to refuse.
+/// Tokens without the types and numbers that calls name: `f::<N>(` is `f(`.
+fn without_named_types(tokens: &[String]) -> Vec<String> {
+    let (mut found, mut depth) = (Vec::new(), 0);
+    for (at, token) in tokens.iter().enumerate() {
+        let opens = |at: usize| tokens.get(at).is_some_and(|token| token == "<");
+        if depth == 0 && !(token == "::" && opens(at + 1)) && !(opens(at) && at > 0 && tokens[at - 1] == "::") {
+            found.push(token.clone());
+        } else {
+            depth += i32::from(token == "<") - i32::from(token == ">");
+        }
+    }
+    found
+}
+
+/// The calls among tokens as they are written; methods (`.f`) and macros (`f!`) are left for the caller to refuse, but for those of the library.
 fn calls(tokens: &[String]) -> Vec<String> {
+    let tokens = &without_named_types(tokens);
     let mut found = Vec::new();
     for at in (1..tokens.len()).filter(|at| tokens[*at] == "(" && is_name(&tokens[at - 1])) {
         let mut start = at - 1;
@@ -569,7 +586,7 @@ fn calls(tokens: &[String]) -> Vec<String> {
             found.push(method.to_string() + &tokens[start..at].concat());
         }
     }
-    let unfollowed = |three: &&[String]| three[1] == "!" && is_name(&three[0]) && three[2] != "=" || three[1] == "::" && three[2] == "<";
+    let unfollowed = |three: &&[String]| three[1] == "!" && is_name(&three[0]) && three[2] != "=";
     found.extend(tokens.windows(3).filter(unfollowed).map(|three| three.concat()));
     found
 }
