@@ -95,7 +95,7 @@ impl Crates {
     fn declares(&self, name: &str, item: &str) -> bool {
         self.0[name].values().any(|text| {
             let words: Vec<&str> = text.split(|c: char| !(c.is_alphanumeric() || c == '_')).filter(|w| !w.is_empty()).collect();
-            words.windows(2).any(|pair| ["fn", "mod", "enum", "struct", "const"].contains(&pair[0]) && pair[1] == item)
+            words.windows(2).any(|pair| ["fn", "mod", "enum", "struct", "trait", "const"].contains(&pair[0]) && pair[1] == item)
         })
     }
 }
@@ -515,7 +515,7 @@ fn function_tokens(text: &str) -> Vec<Vec<String>> {
 fn array_holders(crates: &Crates) -> BTreeSet<String> {
     let texts = crates.0.values().flat_map(|files| files.values()).map(|text| code(text));
     let items: Vec<Vec<String>> = texts.flat_map(|text| text.split("\n\n").map(tokens).collect::<Vec<_>>()).collect();
-    let named = |pair: &[String]| ["struct", "enum", "const", "static"].contains(&pair[0].as_str()).then(|| pair[1].clone());
+    let named = |pair: &[String]| (["struct", "enum", "const", "static"].contains(&pair[0].as_str()) && is_name(&pair[1])).then(|| pair[1].clone());
     items.iter().filter(|item| array(item).is_some()).flat_map(|item| item.windows(2).filter_map(named)).collect()
 }
 
