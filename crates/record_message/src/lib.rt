@@ -51,9 +51,11 @@ fn sound_flags(rec: &[u8], at: usize) -> bool
     let dirty = rec[at + MESSAGE_DIRTY_OFFSET];
     // The mark and the zero behind it as one number, so that one comparison decides them.
     let dirty_and_zero = u16::from_le_bytes([dirty, rec[at + MESSAGE_ZERO_OFFSET]]);
-    (owner <= data || bare_owner_sound(owner, dirty, rec[at + TARGET_OFFSET]))
-        && (plain != 0 || owner != 0)
-        && dirty_and_zero <= u16::from(owner)
+    // With a return of its own: joined to the rest by ||, it took 4 instructions more for each message.
+    if data < owner && !bare_owner_sound(owner, dirty, rec[at + TARGET_OFFSET]) {
+        return false;
+    }
+    (plain != 0 || owner != 0) && dirty_and_zero <= u16::from(owner)
 }
 
 // Whether a message's data mark is 0 or 1, and without data its words are 0.
