@@ -84,6 +84,7 @@ pub fn unused_lanes_empty(s: &[u8], count: usize, boards: u8) -> bool
     if boards == 15 {
         return true;
     }
+    // With one u128 in place of the halves it took 2 instructions more for each block.
     let mut low = 0;
     let mut high = 0;
     for b in 0..count {
