@@ -79,7 +79,7 @@ module _ (rec₀ list : List ℕ) (at : ℕ) (out₀ : List ℕ) where
 
     -- the end: where there is no room for another reply, or no byte is left, no record is left
     module _ (none : rest place made ≡ []) where
-      going_end : RunResult rec₀ list at out₀ made rec place out
+      pub going_end : RunResult rec₀ list at out₀ made rec place out
       unfolding run_all replies_of
       going_end =
           record {

@@ -1,12 +1,12 @@
 -- Numbers as bytes and back, by induction on the count of bytes.
-use mathlib.Core.Path.{◌≡◌, refl, ap, ◌∙◌}
-use Prim.Native.Nat.{ℕ, zero, suc, ◌+◌, ◌*◌, ◌/◌, ◌%◌, ◌^◌, ◌≤◌, ◌<◌}
+use mathlib.Core.Path.{◌≡◌, refl, sym, ap, ◌∙◌}
+use Prim.Native.Nat.{ℕ, zero, suc, ◌+◌, ◌*◌, ◌-◌, ◌/◌, ◌%◌, ◌^◌, ◌≤◌, ◌<◌}
 use native.Mathlib.Numerals.{add-one, unary_clauses}
 use native.Mathlib.Omega.{arith}
-use native.Mathlib.Nat.{pow-suc, add-zero, zero-add}
+use native.Mathlib.Nat.{pow-suc, pow-le-pow_right, add-zero, zero-add}
 use mathlib.Core.List.{List, [], ◌∷◌, ◌++◌}
-use lib.ListN.{length, take, drop, get_or, length-append}
-use lib.Seq.{drop-cons}
+use lib.ListN.{length, take, drop, get_or, set, length-append}
+use lib.Seq.{drop-cons, set_split, drop_at, length-take-le, append_snoc}
 use Rattle.spec_base.specs.Number.{Bytes, number, number_from, digits, ByteNumbers}
 use Rattle.spec_base.proofs.Parts.{bytes_append}
 
@@ -37,7 +37,7 @@ number_digits (suc n) v h =
 -- ---- read and written
 
 -- a number of i bytes, with one byte more
-number_grows : (i : ℕ) {a b : ℕ} → a < 256 ^ i → b < 256 → a * 256 + b < 256 ^ (i + 1)
+pub number_grows : (i : ℕ) {a b : ℕ} → a < 256 ^ i → b < 256 → a * 256 + b < 256 ^ (i + 1)
 number_grows i h k = rw (add-one, pow-suc) (omega arith)
 
 number_from_below : (bs : List ℕ) (i a : ℕ) → a < 256 ^ i → Bytes bs → number_from a bs < 256 ^ (i + length bs)
@@ -72,6 +72,27 @@ byte_numbers =
       read_and_written = digits_number;
       below = number_below;
     }
+
+-- ---- as loops go
+
+-- one byte more is read
+pub number_next : (bs : List ℕ) (a i : ℕ) → i < length bs → number_from (a * 256 + get_or bs i 0) (drop (i + 1) bs) ≡ number_from a (drop i bs)
+number_next bs a i h = rw (add-one, drop-cons bs i 0)
+
+-- where at most three bytes have been read, there is room for one more in 32 bits
+pub number_fits : (i : ℕ) {a : ℕ} → a < 256 ^ i → i < 4 → a < 0x100_0000
+number_fits i {a} h k =
+    let most : i ≤ 3 = omega arith in
+    omega (arith, pow-le-pow_right {n = 256} (omega arith) most)
+
+-- the low byte of a number of i bytes, stored at the last of i places
+pub digits_next : (i v : ℕ) (out : List ℕ) → 0 < i → i ≤ length out → digits (i - 1) (v / 256) ++ drop (i - 1) (set out (i - 1) (v % 256)) ≡ digits i v ++ drop i out
+digits_next zero v out h k = absurd (omega arith)
+digits_next (suc j) v out h k =
+    let low : suc j - 1 ≡ j = omega arith in
+    rw low
+    (rw (set_split out j (v % 256) k, drop_at (take j out) (v % 256 ∷ drop (suc j) out) j (length-take-le j out (omega arith)))
+    (sym (append_snoc (digits j (v / 256)) (v % 256) (drop (suc j) out))))
 
 -- ---- of two and of four bytes
 
