@@ -12,6 +12,7 @@ ghost use Rattle.spec_rack.specs.RecordLayout.{format_magic, header_size, block_
 ghost use Rattle.record_message.specs.Messages.{sound_message_at};
 ghost use Rattle.record_soundness.specs.Decision.{header_sound, sum_in_flight, tokens_total, sound_claims_at, sound_sums_at, sound_block_at};
 
+use base::numbers::BigEndian;
 use record::sizes;
 use record_lanes::sum16;
 use record_message::{sound_message_at, token_sum};
@@ -41,7 +42,7 @@ fn format_known(rec: &[u8]) -> bool
     requires { header_size ≤ length rec.now }
     ensures { result ≡ eqb (format_in rec.now) format_magic }
 {
-    u32::from_be_bytes(rec[FORMAT_OFFSET..FORMAT_OFFSET + 4].try_into().unwrap()) == FORMAT_MAGIC
+    u32::read_at(rec, FORMAT_OFFSET) == FORMAT_MAGIC
 }
 
 // Whether the block at `at` has T tokens, one of them the owner, given the token sum of its messages in flight.
