@@ -1,2 +1,2 @@
-mod LineLaws
-mod RunText
+pub mod LineLaws
+pub mod RunText

@@ -191,3 +191,8 @@ module _ (s input used rec : List ℕ) (r : Reply) (from : ℕ) (r_is : r ≡ op
               ∙ place_more 0 (line 0 r) more out (omega arith)
               ∙ ap (λ (t : List ℕ). place 0 t out) all,
         )
+
+-- a text that was placed is no longer than the buffer afterwards
+pub placed_fits : (n : ℕ) (t out out' : List ℕ) → n ≡ length t → out' ≡ place 0 t out → n ≤ length out'
+unfolding place
+placed_fits n t out out' long placed = omega (arith, ap length placed, length-append t (drop (0 + length t) out))

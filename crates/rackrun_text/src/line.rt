@@ -1,5 +1,5 @@
 // The lines that a program writes of replies.
-ghost use Rattle.std.specs.Prelude.{◌≡◌, ◌+◌, ◌≤◌, ◌<◌, ◌++◌, length};
+ghost use Rattle.std.specs.Prelude.{◌≡◌, ◌+◌, ◌^◌, ◌≤◌, ◌<◌, ◌++◌, length};
 ghost use Rattle.spec_base.specs.Placing.{place};
 ghost use Rattle.spec_rackrun.specs.Rackrun.{digit, digits, decimal, reply_text, line};
 
@@ -25,28 +25,45 @@ fn digit(n: u64) -> u8
     }
 }
 
-// Adds the lowest digits of a number.
-fn push_digits(text: &mut Line, base: u64, count: usize, n: u64)
-    requires { (length text.old.items + count ≤ 16) × (1 ≤ base) × (base ≤ 16) }
-    ensures text { text.new.items ≡ text.old.items ++ digits base count n }
-    ensures length { length text.new.items ≡ length text.old.items + count }
+// A power of ten of which a number in a line may have a digit.
+fn power_of_ten(k: usize) -> u64
+    requires { k ≤ 4 }
+    ensures power { result ≡ 10 ^ k }
+    ensures some { 0 < result }
 {
-    if count > 0 {
-        push_digits(text, base, count - 1, n / base);
-        text.push(digit(n % base));
+    match k {
+        0 => 1,
+        1 => 10,
+        2 => 100,
+        3 => 1_000,
+        _ => 10_000,
     }
 }
 
-// Adds a number in decimal, of at most one digit and so many more.
-fn push_decimal(text: &mut Line, more: usize, n: u64)
-    requires { length text.old.items + more < 16 }
-    ensures text { text.new.items ≡ text.old.items ++ decimal more n }
-    ensures length { length text.new.items ≤ length text.old.items + more + 1 }
+// Adds a number in decimal, of at most one digit and `MORE` more. The powers are constants once the loop is unrolled, so that no division is left.
+fn push_decimal<const MORE: usize>(text: &mut Line, n: u64)
+    requires { (length text.old.items + MORE < 16) × (MORE ≤ 4) }
+    ensures text { text.new.items ≡ text.old.items ++ decimal MORE n }
+    ensures length { length text.new.items ≤ length text.old.items + MORE + 1 }
 {
-    if more > 0 && n >= 10 {
-        push_decimal(text, more - 1, n / 10);
+    for k in (1..MORE + 1).rev() {
+        let front = n / power_of_ten(k);
+        if front > 0 {
+            text.push(digit(front % 10));
+        }
     }
     text.push(digit(n % 10));
+}
+
+// Adds the lowest hexadecimal digits of a number.
+fn push_hexadecimal<const COUNT: usize>(text: &mut Line, n: u64)
+    requires { (length text.old.items + COUNT ≤ 16) × (COUNT ≤ 8) }
+    ensures text { text.new.items ≡ text.old.items ++ digits 16 COUNT n }
+    ensures length { length text.new.items ≡ length text.old.items + COUNT }
+{
+    for k in (0..COUNT).rev() {
+        text.push(digit((n >> (4 * k)) % 16));
+    }
 }
 
 // Adds the text of a reply.
@@ -63,17 +80,17 @@ fn push_reply(text: &mut Line, reply: Result<Answer, Refusal>)
         }
         Ok(Answer::Word(word)) => {
             text.push(b'v');
-            push_digits(text, 16, 8, u64::from(word));
+            push_hexadecimal::<8>(text, u64::from(word));
         }
         Ok(Answer::Served { component, block }) => {
             text.push(b'd');
-            push_decimal(text, 2, u64::from(component));
+            push_decimal::<2>(text, u64::from(component));
             text.push(b'.');
-            push_decimal(text, 2, u64::from(block));
+            push_decimal::<2>(text, u64::from(block));
         }
         Err(refusal) => {
             text.push(b'r');
-            push_decimal(text, 1, base::results::number(refusal));
+            push_decimal::<1>(text, base::results::number(refusal));
         }
     }
 }
@@ -84,7 +101,7 @@ fn line(index: u64, reply: Result<Answer, Refusal>) -> Line
     ensures { result.items ≡ line index reply }
 {
     let mut text = Line::new();
-    push_decimal(&mut text, 4, index);
+    push_decimal::<4>(&mut text, index);
     text.push(b' ');
     push_reply(&mut text, reply);
     text.push(b'\n');
