@@ -1,7 +1,8 @@
 //! Checks over the sources, before anything is proved: no public entry has a `requires`; each must-fail edit fits its crate; what the
 //! documents name is there; modules use only those before them; specifications and proofs say in their first line what they state; no
 //! size or offset of the record's layout stands outside its definitions, and its number is the same everywhere; a deliver runs no code with
-//! an array and copies a message's words once. Run at the root of the repository; it ends with 1 and says why where something is amiss.
+//! an array and copies a message's words once; numbers with the high byte first go by one trait; docs/PROOFS.md lists all that must be
+//! believed. Run at the root of the repository; it ends with 1 and says why where something is amiss.
 
 use std::collections::{BTreeMap, BTreeSet};
 use std::fs;
@@ -41,13 +42,17 @@ const DELIVER: [&str; 8] = [
     "record_mesh::remove",
 ];
 
-/// What alone reads the words of a message that is delivered, the method of the library that it copies them by, and the offset that they are at.
+/// What alone reads the words of a message that is delivered, and the offset that they are at.
 const COPY_WORDS: &str = "record_mesh::copy_words";
-const COPY_BYTES: &str = ".copy_from_slice";
 const WORDS_OF_MESSAGE: &str = "MESSAGE_WORDS_OFFSET";
 
-/// What a deliver may call of the library: none of it makes an array.
-const LIBRARY: [&str; 7] = ["matches!(", "u8::from", "u32::from", "usize::from", COPY_BYTES, ".copy_within", ".split_at_mut"];
+/// What a deliver may call of the library: none of it makes an array or moves a byte.
+const LIBRARY: [&str; 4] = ["matches!(", "u8::from", "u32::from", "usize::from"];
+
+/// The methods of the library that move bytes or lend a part of them, and the one function of a deliver that calls each, once: the words go by the first,
+/// and the last moves the messages behind the one that is removed.
+const BYTE_METHODS: [(&str, &str); 3] =
+    [(".copy_from_slice", COPY_WORDS), (".split_at_mut", COPY_WORDS), (".copy_within", "record_mesh::remove")];
 
 /// The functions that read or write eight words as an array.
 const WORD_ARRAYS: [&str; 3] = ["words_at", "put_words", "words_of"];
@@ -69,6 +74,8 @@ fn main() {
         layout_numbers(&mut bad),
         format(&mut bad),
         deliver(&crates, &mut bad),
+        high_first(&crates, &mut bad),
+        reading_list(&mut bad),
         documents(&crates, &mut bad),
     ];
     if !bad.is_empty() {
@@ -403,9 +410,11 @@ fn deliver(crates: &Crates, bad: &mut Vec<String>) -> String {
     if callers.len() != 1 {
         bad.push(format!("deliver: {COPY_WORDS} must be called at one place; it is called in {callers:?}"));
     }
-    let copies = run.get(COPY_WORDS).map_or(0, |function| function.calls_of(COPY_BYTES));
-    if copies != 1 {
-        bad.push(format!("deliver: {COPY_WORDS} must call {COPY_BYTES} once; it has {copies} such calls"));
+    for (method, path) in BYTE_METHODS {
+        let count = run.get(path).map_or(0, |function| function.calls_of(method));
+        if count != 1 {
+            bad.push(format!("deliver: {path} must call {method} once; it has {count} such calls"));
+        }
     }
     format!("deliver: {} functions, no array among them; the words are read by copy_words alone", run.len())
 }
@@ -436,7 +445,8 @@ fn reached<'a>(all: &'a BTreeMap<String, Function>, start: &'a str, bad: &mut Ve
         if found.insert(path, function).is_some() {
             continue;
         }
-        for call in function.calls.iter().filter(|call| !LIBRARY.contains(&call.as_str())) {
+        let known = |call: &str| LIBRARY.contains(&call) || BYTE_METHODS.contains(&(call, path));
+        for call in function.calls.iter().filter(|call| !known(call)) {
             if !all.contains_key(call) {
                 bad.push(format!("deliver: {path} calls {call}, which this check cannot follow"));
             }
@@ -572,6 +582,9 @@ fn without_named_types(tokens: &[String]) -> Vec<String> {
 
 /// The calls among tokens as they are written; methods (`.f`) and macros (`f!`) are left for the caller to refuse, but for those of the library.
 fn calls(tokens: &[String]) -> Vec<String> {
+    // of what a call names only one word is taken out: in an expression a `<` or a `>` need be no bracket
+    let named = tokens.windows(4).filter(|four| four[0] == "::" && four[1] == "<" && four[3] != ">").map(|four| four.concat());
+    let named: Vec<String> = named.collect();
     let tokens = &without_named_types(tokens);
     let mut found = Vec::new();
     for at in (1..tokens.len()).filter(|at| tokens[*at] == "(" && is_name(&tokens[at - 1])) {
@@ -588,7 +601,61 @@ fn calls(tokens: &[String]) -> Vec<String> {
     }
     let unfollowed = |three: &&[String]| three[1] == "!" && is_name(&three[0]) && three[2] != "=";
     found.extend(tokens.windows(3).filter(unfollowed).map(|three| three.concat()));
+    found.extend(named);
     found
+}
+
+/// Numbers of several bytes, high byte first, are read and written by one trait alone (docs/CONVENTIONS.md).
+fn high_first(crates: &Crates, bad: &mut Vec<String>) -> String {
+    for (name, files) in &crates.0 {
+        for (path, text) in files.iter().filter(|(path, _)| !(name == "base" && name_of(path) == "numbers.rt")) {
+            for word in tokens(&code(text)).iter().filter(|word| ["from_be_bytes", "to_be_bytes"].contains(&word.as_str())) {
+                bad.push(format!("{}: {word}, which is for base::numbers::BigEndian alone", path.display()));
+            }
+        }
+    }
+    "numbers: high byte first by base::numbers::BigEndian alone".into()
+}
+
+/// docs/PROOFS.md, "What must be believed": each numbered item names a crate and files of its specs/, and the lines below them files of any. Every file of
+/// these crates is named so, and every file that an item names is there.
+fn reading_list(bad: &mut Vec<String>) -> String {
+    let page = text(Path::new("docs/PROOFS.md"));
+    let section = page.split("\n## ").find(|section| section.starts_with("What must be believed")).unwrap_or_default();
+    let named = |part: &str| part.split('`').skip(1).step_by(2).map(String::from).collect::<Vec<_>>();
+    let (items, other): (Vec<&str>, Vec<&str>) = section.split("\n\n").partition(|part| part.starts_with("1. "));
+    let below: Vec<String> = other.iter().flat_map(|part| named(part)).collect();
+    let mut listed = BTreeSet::new();
+    for item in items.join("\n").split('\n').fold(Vec::new(), |mut found: Vec<String>, line| {
+        match found.last_mut() {
+            Some(last) if line.starts_with(' ') => last.push_str(line),
+            _ => found.push(line.to_string()),
+        }
+        found
+    }) {
+        let names = named(&item);
+        let Some((name, files)) = names.split_first() else { continue };
+        for file in files.iter().filter(|file| file.starts_with(char::is_uppercase)) {
+            if !Path::new("crates").join(name).join("specs").join(file).with_extension("antt").is_file() {
+                bad.push(format!("docs/PROOFS.md: what must be believed names {file} of {name}, which is not there"));
+            }
+            listed.insert((name.clone(), file.clone()));
+        }
+    }
+    let mut count = 0;
+    for path in written("antt").into_iter().filter(|path| name_of(path) != "Lib.antt") {
+        let parts: Vec<&str> = path.iter().filter_map(|part| part.to_str()).collect();
+        let [_, name, "specs", .., file] = parts[..] else { continue };
+        if !name.starts_with("spec_") || name == "spec_sizes" {
+            continue;
+        }
+        count += 1;
+        let file = file.trim_end_matches(".antt").to_string();
+        if !below.contains(&file) && !listed.contains(&(name.to_string(), file.clone())) {
+            bad.push(format!("docs/PROOFS.md: what must be believed does not name {name}/specs/{file}"));
+        }
+    }
+    format!("reading list: {count} files of specifications, all named")
 }
 
 /// What the documents name is there: files of specifications and proofs, edits and how many a crate has, functions and types.
